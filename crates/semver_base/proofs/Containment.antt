@@ -7,8 +7,8 @@ use Rattle.semver_base.specs.LowestVersion.{IsLowestPassing, IsReadable}
 use Rattle.semver_base.specs.VersionGrammar.{IsVersionOutcome, is_version}
 use Rattle.semver_base.specs.VersionText.{version_text, ReadsBack}
 use Rattle.semver_base.specs.declared.version.Version.{Version}
-use Rattle.semver_base.proofs.ReadVersions.{read_writable}
-use Rattle.semver_base.proofs.Triples.{not_true}
+use Rattle.semver_base.specs.OrderLaws.{not_true}
+use Rattle.semver_base.specs.WrittenLaws.{read_writable}
 
 -- the second test passes what the first one passes exactly if nothing is found
 pub within_reported : (test other : Version → Bool) (x : Option Version) (reported : Bool) → is_some x ≡ not reported → IsLowestPassing (λ v. test v && not (other v)) x → ReportsWithin test other reported

@@ -19,7 +19,7 @@ use Rattle.semver_base.proofs.LowestAbove.{version_lowest}
 use Rattle.semver_base.proofs.LowestFrom.{retained_passes, retained_reaches, lowest_by, lesser_keeps, lesser_reaches_first, lesser_reaches_second, lower_means, means, means_admits, means_start, pre_reached, release_reached, AreAlike, GoesDown, Reaches}
 use Rattle.semver_base.proofs.LowestPres.{lowest_pre, pre_above, pre_by}
 use Rattle.semver_base.proofs.PassedEnds.{after_gone, after_holds, not_meant, one_within, Within}
-use Rattle.semver_base.proofs.Triples as triples
+use Rattle.semver_base.specs.OrderLaws as orders
 
 -- ---- over the items of a list
 
@@ -274,7 +274,7 @@ module _ (flag : PreRelease) (own : List VersionRange) (others : List VersionRan
   reached : (v : Version) → IsReadable v → test v ≡ true → Reaches (lowest_of flag own others without) v
   reached v readable pass =
       let matched = (and_parts (some_means flag own v && list_all (λ (set : VersionRangeSet). set_means_with flag set.0 v) others) _ pass).0 in
-      let none = triples.not_true (some_means flag without v) (and_parts (some_means flag own v && list_all (λ (set : VersionRangeSet). set_means_with flag set.0 v) others) _ pass).1 in
+      let none = orders.not_true (some_means flag without v) (and_parts (some_means flag own v && list_all (λ (set : VersionRangeSet). set_means_with flag set.0 v) others) _ pass).1 in
       let first = some_range flag own v (and_parts (some_means flag own v) _ matched).0 in
       let sets = behind_sets flag v Q first.0.start (means_start flag first.0 v first.2, q_own first.0 first.1) others q_others (all_same flag others v ∙ (and_parts (some_means flag own v) _ matched).1) in
       let ends = behind_ends flag v Q sets.0 sets.1 without q_ends in

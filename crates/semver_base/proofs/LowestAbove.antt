@@ -19,8 +19,8 @@ use Rattle.semver_base.proofs.LowestPres as pres
 use Rattle.semver_base.proofs.LowestReleases as releases
 use Rattle.semver_base.proofs.LowestReleases.{above_under, is_release_from, next_lowest, no_pre, under_above}
 use Rattle.semver_base.proofs.NumbersOrder.{by_numbers, numbers_le, numbers_under, Under}
-use Rattle.semver_base.proofs.Orders.{greater_from, le_then_first}
-use Rattle.semver_base.proofs.OverlapLemmas.{not_none}
+use Rattle.semver_base.specs.OrderLaws.{greater_from, le_then_first}
+use Rattle.semver_base.specs.OverlapLaws.{not_none}
 
 -- ---- `0` below all of its numbers
 

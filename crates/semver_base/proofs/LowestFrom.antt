@@ -20,9 +20,8 @@ use Rattle.semver_base.specs.declared.range.VersionRange.{VersionRange}
 use Rattle.semver_base.proofs.LowestPres.{is_pre_above, lowest_pre, pre_lowest}
 use Rattle.semver_base.proofs.LowestReleases.{is_release_from, release_lowest}
 use Rattle.std.proofs.Math.Bool.{or-false}
-use Rattle.semver_base.proofs.Orders.{less_from}
-use Rattle.semver_base.proofs.Triples as triples
-use Rattle.semver_base.proofs.Triples.{SameNumbers}
+use Rattle.semver_base.specs.OrderLaws.{less_from, SameNumbers}
+use Rattle.semver_base.specs.OrderLaws as orders
 
 -- ---- lowest versions of tests
 
@@ -139,7 +138,7 @@ AreAlike Restricted w v = ((is_release w ≡ true) × (is_release v ≡ true)) �
 -- a bound that is a pre-release of the numbers of v is one of those of w too
 pub same_admits : (x : RangeBound) (w v : Version) → SameNumbers v w → has_pre_of x v ≡ true → has_pre_of x w ≡ true
 same_admits bound.Unbounded w v same h = h
-same_admits (bound.Version x) w v same h = triples.pre_from x.version w (triples.same_on x.version v w (triples.pre_numbers x.version v h) same) (triples.pre_some x.version v h)
+same_admits (bound.Version x) w v same h = orders.pre_from x.version w (orders.same_on x.version v w (orders.pre_numbers x.version v h) same) (orders.pre_some x.version v h)
 
 -- a range that admits a version admits those of its kind
 pub alike_admitted : (flag : PreRelease) (a : VersionRange) (w v : Version) → AreAlike flag w v → (is_unrestricted flag v || admits_pre a v) ≡ true → (is_unrestricted flag w || admits_pre a w) ≡ true
@@ -174,7 +173,7 @@ retained_passes test (Some w) = elim (cases_Bool (test w)) [
 
 both_numbers : (x : RangeBound) (w v : Version) → has_pre_of x w ≡ true → has_pre_of x v ≡ true → SameNumbers v w
 both_numbers bound.Unbounded w v h k = cc h
-both_numbers (bound.Version x) w v h k = triples.same_on v x.version w (triples.same_back x.version v (triples.pre_numbers x.version v k)) (triples.pre_numbers x.version w h)
+both_numbers (bound.Version x) w v h k = orders.same_on v x.version w (orders.same_back x.version v (orders.pre_numbers x.version v k)) (orders.pre_numbers x.version w h)
 
 -- a pre-release of the bound's numbers is reached
 pub pre_reached : (test : Version → Bool) (start x : RangeBound) (v : Version) → IsReadable v → start_holds start v ≡ true → is_release v ≡ false → has_pre_of x v ≡ true → GoesDown Restricted test start v
@@ -184,7 +183,7 @@ pre_reached test start x v readable held pre admitted down = retained_reaches (i
     low : (w : Version) → is_pre_above start x w ≡ true → is_le (precedence_cmp w v) ≡ true → test w ≡ true
     low w own le =
         let rest = (and_parts (start_holds start w) _ own).1 in
-        let some = triples.not_true (is_release w) (and_parts _ (has_pre_of x w) rest).0 in
+        let some = orders.not_true (is_release w) (and_parts _ (has_pre_of x w) rest).0 in
         let of_bound = (and_parts (not (is_release w)) _ rest).1 in
         down w (and_parts _ (not (is_release w) && has_pre_of x w) own).0 (inr (some, pre, both_numbers x w v of_bound admitted)) le
 

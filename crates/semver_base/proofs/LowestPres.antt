@@ -18,14 +18,13 @@ use Rattle.semver_base.specs.declared.range.RangeBound.TheVariants as bound
 use Rattle.semver_base.specs.declared.range.VersionBound.{VersionBound}
 use Rattle.semver_base.specs.declared.range.VersionBoundKind.{VersionBoundKind}
 use Rattle.semver_base.specs.declared.range.VersionBoundKind.TheVariants as kind
-use Rattle.semver_base.proofs.ClampLemmas.{above_from}
+use Rattle.semver_base.specs.ClampLaws.{above_from}
 use Rattle.semver_base.proofs.LowestIdentifiers.{appended_above, appended_next, zeros_lowest}
 use Rattle.semver_base.proofs.NumbersOrder.{by_numbers, numbers_tied}
 use Rattle.std.proofs.Math.Bool.{and-false}
-use Rattle.semver_base.proofs.Orders.{greater_from}
-use Rattle.semver_base.proofs.Triples as triples
-use Rattle.semver_base.proofs.Triples.{SameNumbers}
-use Rattle.semver_base.proofs.OverlapLemmas.{not_none}
+use Rattle.semver_base.specs.OrderLaws.{greater_from, SameNumbers}
+use Rattle.semver_base.specs.OrderLaws as orders
+use Rattle.semver_base.specs.OverlapLaws.{not_none}
 
 -- of the numbers of v, if those of the start compare so to them
 abbrev pub pre_by : Ordering → VersionBound → Version → Option Version
@@ -82,13 +81,13 @@ pre_above_is start k t v h =
     let rest = (and_parts (start_holds start v) _ h).1 in
     record {
       held = (and_parts _ (not (is_release v) && has_pre_of (bound_at k t) v) h).0;
-      some = triples.not_true (is_release v) (and_parts _ (has_pre_of (bound_at k t) v) rest).0;
-      same = triples.pre_numbers t v (and_parts (not (is_release v)) _ rest).1;
+      some = orders.not_true (is_release v) (and_parts _ (has_pre_of (bound_at k t) v) rest).0;
+      same = orders.pre_numbers t v (and_parts (not (is_release v)) _ rest).1;
     }
 
 is_pre_above-from : (start : RangeBound) (k : VersionBoundKind) (t v : Version) → is_release t ≡ false → IsPreAbove start t v → is_pre_above start (bound_at k t) v ≡ true
 is_pre_above-from start k t v pre h =
-    let admitted : has_pre_of (bound_at k t) v ≡ true = triples.pre_from t v h.same pre in
+    let admitted : has_pre_of (bound_at k t) v ≡ true = orders.pre_from t v h.same pre in
     and_from _ _ h.held (rw (h.some, admitted) refl)
 
 itself : (t : Version) (ids : List (List ℕ)) → SameNumbers t (with_pre t ids)
@@ -201,7 +200,7 @@ from_bound (bound.Version s) l t pre = from_start s.kind l s.version t pre (numb
 -- a release isn't a pre-release of any numbers
 not_of_release : (start : RangeBound) (k : VersionBoundKind) (t v : Version) → is_release t ≡ true → is_pre_above start (bound_at k t) v ≡ true → ⊥
 not_of_release start k t v plain h =
-    let some : is_release t ≡ false = triples.pre_some t v (and_parts (not (is_release v)) _ (and_parts (start_holds start v) _ h).1).1 in
+    let some : is_release t ≡ false = orders.pre_some t v (and_parts (not (is_release v)) _ (and_parts (start_holds start v) _ h).1).1 in
     let never : true ≡ false = sym plain ∙ some in
     cc never
 

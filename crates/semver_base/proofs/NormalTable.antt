@@ -11,7 +11,7 @@ use Rattle.semver_base.specs.Shortest.{ending, is_release_of, numbered, shortest
 use Rattle.semver_base.specs.declared.partial.XRange.TheVariants.{Wildcard, Val}
 use Rattle.semver_base.specs.declared.range.VersionBoundKind.TheVariants as kind
 use Rattle.semver_base.specs.declared.version.Version.{Version}
-use Rattle.semver_base.proofs.ShortVersions.{short_is}
+use Rattle.semver_base.specs.ShortLaws.{short_is}
 
 -- ---- which versions are the same
 

@@ -1,23 +1,21 @@
 -- Leading numbers: where runs of bytes end, and the value of digits.
-use Rattle.std.proofs.Common.{◌≡◌, ◌≤◌, ◌<◌, ◌^◌, ℕ, zero, suc, Bool, true, false, List, [], ◌∷◌, ◌++◌, length, take, drop, get_or, Option, Some, None, Result, Ok, Err, refl, sym, ap, ◌∙◌, arith, rules, inl, inr, ◌==◌, add-one, append_assoc, length-append, slice_index, Bor, IsUtf8, IsCharBoundary}
+use Rattle.std.proofs.Common.{◌≡◌, ◌≤◌, ◌<◌, ◌^◌, ℕ, zero, suc, Bool, true, false, List, [], ◌∷◌, ◌++◌, length, take, drop, get_or, Option, Some, None, Result, Ok, Err, refl, sym, ap, ◌∙◌, arith, inl, inr, ◌==◌, add-one, slice_index, Bor, IsUtf8, IsCharBoundary}
 use Rattle.std.specs.Result.{OkIff, result_ok}
 use Rattle.std.proofs.lemmas.List.Sums.{take_while-cons}
 use Rattle.std.specs.List.{list_all, take_while}
 use Rattle.std.specs.Char.{is_ascii_digit}
 use Rattle.std.specs.Str.Parse.{ParsesUnsigned, digits_value}
 use Rattle.std.proofs.lemmas.Str.{IsCharBoundary-start, IsCharBoundary-after_ascii}
-use Rattle.std.proofs.lemmas.Str.Parse.{IsNumeralModel, IsDigitsTest, numerals_by_value, parse_digits}
+use Rattle.std.proofs.lemmas.Str.Parse.{parse_digits}
 use Rattle.std.proofs.lemmas.Bool.{cases_Bool, cases_lt, lt-ltb, le-ltb}
 use Rattle.std.proofs.lemmas.Bool.Decides.{nat_tests}
 use Rattle.std.proofs.lemmas.List.{take-append-drop, nil_from_length}
 use Rattle.semver_base.specs.Grammar.{IsLongest, HasNone, ReadsAs, Run, Stops, CutsRun, answer_of}
-use Rattle.semver_base.specs.Lexical.{IsLooseNumber, IsNumber, IsStrictNumber, is_identifier_byte, measured_of, sized}
+use Rattle.semver_base.specs.Lexical.{IsLooseNumber, IsStrictNumber, is_identifier_byte, measured_of, sized}
 use Rattle.semver_base.specs.declared.lexical.values.Measured.{Measured}
-use Rattle.semver_base.specs.declared.lexical.values.Strictness.{Strictness}
-use Rattle.semver_base.specs.declared.lexical.values.Strictness.TheVariants.{Loose, Strict}
-use Rattle.semver_base.proofs.Fronts.{NonEmpty, narrowed, narrowed_none}
-use Rattle.semver_base.proofs.Bytes.{BeginsBy, GoesBy, list_all-append, mapped_begins, mapped_goes, mapped_some_text}
-use Rattle.semver_base.proofs.Lists.{run_begins, run_goes, run_longest, run_none, run_some}
+use Rattle.semver_base.specs.GrammarLaws.{narrowed, narrowed_none}
+use Rattle.semver_base.specs.ListLaws.{run_longest, run_none}
+use Rattle.semver_base.specs.TokenLaws.{own}
 
 -- ---- where a run ends
 
@@ -92,12 +90,6 @@ run_unseen {p} {text} {first} {rest} c none =
 
 -- ---- the value of digits
 
-digits_test : IsDigitsTest (λ ds. list_all is_ascii_digit ds ≡ true)
-digits_test = search rules
-
-pub own : IsNumeralModel (λ ds. list_all is_ascii_digit ds ≡ true) (digits_value 10)
-own = numerals_by_value (λ ds. list_all is_ascii_digit ds ≡ true) digits_test
-
 -- what `parse` returns for digits is the number, if it fits
 pub parsed : {E : Type 0} (bs : List ℕ) (r : Result ℕ E) → ParsesUnsigned 64 10 bs r → list_all is_ascii_digit bs ≡ true → (length bs == 0) ≡ false → measured_of (result_ok r) ≡ sized (digits_value 10 bs)
 parsed {E} bs r h digits some = go r (parse_digits own 64 bs r h digits)
@@ -113,19 +105,6 @@ parsed {E} bs r h digits some = go r (parse_digits own 64 bs r h digits)
         ]
 
 -- ---- strict numbers
-
-pub strict_zero : (text rest : List ℕ) → text ≡ 48 ∷ rest → IsLongest IsStrictNumber text 0 rest
-strict_zero text rest e = record {
-  front = 48 ∷ [];
-  text_is = e;
-  stands = record { digits = record { value = 48 ∷ []; stands = record { some = omega arith; pass = refl; is = refl }; is = refl }; no_leading_zero = λ _. refl };
-  longest = go;
-}
-  where
-    go : (a b : List ℕ) (w : ℕ) → text ≡ a ++ b → IsStrictNumber a w → (length a ≤ 1) × (length a ≡ 1 → w ≡ 0)
-    go [] b w f h = absurd (let some : 0 < 0 = h.digits.stands.some in omega arith)
-    go (y ∷ []) b w f h = (omega arith, λ _. let zero_byte : y ≡ 48 = cc in let v : h.digits.value ≡ 48 ∷ [] = h.digits.stands.is ∙ ap (λ z. z ∷ []) zero_byte in h.digits.is ∙ ap (digits_value 10) v)
-    go (y ∷ z ∷ a) b w f h = absurd (let zero_byte : y ≡ 48 = cc in omega (arith, h.no_leading_zero zero_byte))
 
 strict_is_loose : (a : List ℕ) (w : ℕ) → IsStrictNumber a w → IsLooseNumber a w
 strict_is_loose a w h = h.digits
@@ -146,25 +125,3 @@ strict_other text (Some p) other h = record {
 }
 
 -- ---- the bytes with which numbers begin and continue
-
-pub loose_begins : BeginsBy IsLooseNumber is_ascii_digit
-loose_begins = mapped_begins (run_begins is_ascii_digit)
-
-pub loose_goes : GoesBy IsLooseNumber is_ascii_digit
-loose_goes = mapped_goes (run_goes is_ascii_digit)
-
-pub loose_some : NonEmpty IsLooseNumber
-loose_some = mapped_some_text (run_some is_ascii_digit)
-
-pub number_is_loose : (s : Strictness) (a : List ℕ) (n : ℕ) → IsNumber s a n → IsLooseNumber a n
-number_is_loose Loose a n h = h
-number_is_loose Strict a n h = h.digits
-
--- no digit follows a longest loose number
-pub loose_end : {text middle : List ℕ} {n : ℕ} (p : IsLongest IsLooseNumber text n middle) (y : ℕ) (rest : List ℕ) → middle ≡ y ∷ rest → is_ascii_digit y ≡ true → ⊥
-loose_end {text} p y rest e k =
-    let pass : list_all is_ascii_digit (p.front ++ (y ∷ [])) ≡ true = list_all-append is_ascii_digit p.front (y ∷ []) p.stands.stands.pass (rw k refl) in
-    let size = length-append p.front (y ∷ []) in
-    let longer : IsLooseNumber (p.front ++ (y ∷ [])) (digits_value 10 (p.front ++ (y ∷ []))) = record { value = p.front ++ (y ∷ []); stands = record { some = omega (arith, size); pass = pass; is = refl }; is = refl } in
-    let split : text ≡ (p.front ++ (y ∷ [])) ++ rest = p.text_is ∙ (ap (λ t. p.front ++ t) e ∙ sym (append_assoc p.front (y ∷ []) rest)) in
-    omega (arith, size, (p.longest (p.front ++ (y ∷ [])) rest (digits_value 10 (p.front ++ (y ∷ []))) split longer).0)

@@ -14,10 +14,10 @@ use Rattle.semver_base.specs.declared.range.RangeBound.TheVariants as bound
 use Rattle.semver_base.specs.declared.range.VersionBoundKind.{VersionBoundKind}
 use Rattle.semver_base.specs.declared.range.VersionBoundKind.TheVariants as kind
 use Rattle.semver_base.specs.declared.range.VersionRange.{VersionRange}
-use Rattle.semver_base.proofs.ClampLemmas.{above_from, start_both}
+use Rattle.semver_base.specs.ClampLaws.{above_from, start_both}
 use Rattle.semver_base.proofs.LowestFrom.{alike_admitted, means, means_admits, means_end, means_from, means_start, AreAlike}
-use Rattle.semver_base.proofs.Orders.{greater_from}
-use Rattle.semver_base.proofs.Triples as triples
+use Rattle.semver_base.specs.OrderLaws.{greater_from}
+use Rattle.semver_base.specs.OrderLaws as orders
 
 -- ---- what an end excludes
 
@@ -71,7 +71,7 @@ start_upper (bound.Version x) w v le h = go x.kind h
 alike_back : (flag : PreRelease) (w v : Version) → AreAlike flag w v → AreAlike flag v w
 alike_back Admitted w v alike = alike
 alike_back Restricted w v (inl plain) = inl (plain.1, plain.0)
-alike_back Restricted w v (inr pre) = inr (pre.1, pre.0, triples.same_back v w pre.2)
+alike_back Restricted w v (inr pre) = inr (pre.1, pre.0, orders.same_back v w pre.2)
 
 -- a range that doesn't match a version matches none of its kind below it, unless only its end excludes the version
 pub not_meant : (flag : PreRelease) (b : VersionRange) (w v : Version) → AreAlike flag w v → is_le (precedence_cmp w v) ≡ true → (end_holds b.end v ≡ false → end_holds b.end w ≡ false) → means flag b v ≡ false → means flag b w ≡ false

@@ -11,14 +11,14 @@ use Rattle.semver_base.specs.declared.range.RangeBound.{RangeBound}
 use Rattle.semver_base.specs.declared.range.VersionRange.{VersionRange}
 use Rattle.semver_base.proofs.LowestFrom.{lower_means, means_start, pre_reached, same_admits, GoesDown, Reaches}
 use Rattle.semver_base.proofs.Lowest.{pre_cases}
-use Rattle.semver_base.proofs.Triples as triples
+use Rattle.semver_base.specs.OrderLaws as orders
 
 module _ (range : VersionRange) (b : RangeBound) where
   abbrev test : Version → Bool
   test = is_pre_match range b
 
   pre : (v : Version) → test v ≡ true → is_release v ≡ false
-  pre v h = triples.not_true (is_release v) (and_parts _ (has_pre_of b v) (and_parts _ (range_means range v) h).0).0
+  pre v h = orders.not_true (is_release v) (and_parts _ (has_pre_of b v) (and_parts _ (range_means range v) h).0).0
 
   of_bound : (v : Version) → test v ≡ true → has_pre_of b v ≡ true
   of_bound v h = (and_parts (not (is_release v)) _ (and_parts _ (range_means range v) h).0).1

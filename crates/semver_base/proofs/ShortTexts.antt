@@ -15,21 +15,20 @@ use Rattle.semver_base.specs.Characters.{dot}
 use Rattle.semver_base.specs.Grammar.{IsLongest, Stops}
 use Rattle.semver_base.specs.Lexical.{IsLooseNumber, IsStrictNumber}
 use Rattle.semver_base.specs.Meaning.{release}
-use Rattle.semver_base.specs.ShortTexts.{IsBareNumber, IsBareTriple, IsPairFront, IsShortFront, IsTripleFront, LacksDottedNumber, LacksShortNumber, LacksShortTriple}
+use Rattle.semver_base.specs.ShortTexts.{IsBareNumber, IsBareTriple, IsPairFront, IsTripleFront, LacksDottedNumber, LacksShortNumber, LacksShortTriple}
 use Rattle.semver_base.specs.VersionParserSteps.{IsFittingNumber, IsFittingTriple, IsBareVersion, IsQualified}
 use Rattle.semver_base.specs.declared.lexical.values.Strictness.TheVariants.{Loose}
-use Rattle.semver_base.specs.declared.short.ShortNumbers.{ShortNumbers}
 use Rattle.semver_base.specs.declared.short.ShortNumbers.TheVariants as short_numbers
 use Rattle.semver_base.specs.declared.short.Numbers.{Numbers}
 use Rattle.semver_base.specs.declared.version.Version.{Version}
-use Rattle.semver_base.proofs.Bytes.{joined_some_text, list_all-append}
-use Rattle.semver_base.proofs.Fronts.{mapped, narrowed, one_front}
-use Rattle.semver_base.proofs.Lists.{run_longest, run_none}
-use Rattle.semver_base.proofs.Numbers.{loose_some}
-use Rattle.semver_base.proofs.Qualifiers.{no_qualifier}
+use Rattle.semver_base.specs.ByteLaws.{joined_some_text, list_all-append}
+use Rattle.semver_base.specs.GrammarLaws.{mapped, narrowed, one_front}
+use Rattle.semver_base.specs.ListLaws.{run_longest, run_none}
 use Rattle.semver_base.proofs.VersionReading.{all_read, no_lead, triple_read}
-use Rattle.semver_base.proofs.Solid.{all_ascii, ends_solid, is_solid_byte, number_made, qualifier_made, solid_all_ascii, some_text, starts_solid, trim_same}
+use Rattle.semver_base.specs.SolidLaws.{all_ascii, ends_solid, is_solid_byte, qualifier_made, solid_all_ascii, some_text, starts_solid, trim_same}
 use Rattle.semver_base.proofs.WrittenVersions.{triple_made}
+use Rattle.semver_base.specs.TokenLaws.{loose_some, no_qualifier}
+use Rattle.semver_base.specs.ShortLaws.{IsSolid, solid_joined}
 
 -- ---- a number, digit by digit
 
@@ -132,19 +131,9 @@ fits p = record { number = p.loose; fits = p.fits }
 front_fits : {text rest : List ℕ} {major minor patch : ℕ} → IsTripleFront text major minor patch rest → IsFittingTriple text (major, (minor, patch)) rest
 front_fits p = triple_read (fits p.major) refl (fits p.minor) refl (fits p.patch)
 
--- the text isn't empty, and all its bytes are solid
-abbrev pub IsSolid : List ℕ → Type 0
-IsSolid text = (list_all is_solid_byte text ≡ true) × (0 < length text)
-
 -- solid bytes leave nothing to trim
 pub solid_trimmed : (text : List ℕ) → IsSolid text → trim text ≡ text
 solid_trimmed text h = trim_same text (solid_all_ascii text h.0) (starts_solid text h.1 h.0) (ends_solid text h.1 h.0)
-
-solid_some : (b : ℕ) (text : List ℕ) → is_solid_byte b ≡ true → list_all is_solid_byte text ≡ true → IsSolid (b ∷ text)
-solid_some b text h k = (rw (h, k) refl, omega arith)
-
-solid_joined : (a b : List ℕ) → IsSolid a → list_all is_solid_byte b ≡ true → IsSolid (a ++ b)
-solid_joined a b h k = (list_all-append is_solid_byte a b h.0 k, omega (arith, h.1, length-append a b))
 
 numbers_front : {text rest : List ℕ} {numbers : ℕ × (ℕ × ℕ)} (p : IsFittingTriple text numbers rest) → IsSolid p.triple.front
 numbers_front {numbers = numbers} p = (triple_made.made p.triple.front numbers p.triple.stands, some_text (joined_some_text loose_some) p.triple.front p.triple.stands)
@@ -186,17 +175,6 @@ numbers_rest {text} {rest} front =
     rw p.text_is (drop_after p.front rest)
 
 -- ---- one to three numbers
-
-number_front_solid : {text rest : List ℕ} {n : ℕ} → IsBareNumber text n rest → list_all is_solid_byte rest ≡ true → IsSolid text
-number_front_solid {text} {rest} {n} p h =
-    let number = p.loose in
-    rw number.text_is (solid_joined number.front rest (number_made.made number.front n number.stands, some_text loose_some number.front number.stands) h)
-
--- a text of numbers and solid bytes behind them
-pub short_solid : (text : List ℕ) (numbers : ShortNumbers) (rest : List ℕ) → IsShortFront text numbers rest → list_all is_solid_byte rest ≡ true → IsSolid text
-short_solid text (short_numbers.One m) rest p h = number_front_solid p h
-short_solid text (short_numbers.Two m n) rest p h = number_front_solid p.major (solid_some 46 p.from_minor refl (number_front_solid p.minor h).0).0
-short_solid text (short_numbers.Three n) rest p h = number_front_solid p.major (solid_some 46 p.from_minor refl (number_front_solid p.minor (solid_some 46 p.from_patch refl (number_front_solid p.patch h).0).0).0).0
 
 -- ---- fewer than three leading numbers
 

@@ -8,11 +8,10 @@ use Rattle.semver_base.specs.VersionGrammar.{IsTriple, is_version}
 use Rattle.semver_base.specs.VersionText.{IsWritable, VersionTextsAreBare, is_version_text_byte, version_text}
 use Rattle.semver_base.specs.declared.lexical.values.Strictness.TheVariants.{Loose}
 use Rattle.semver_base.specs.declared.version.Version.{Version}
-use Rattle.semver_base.proofs.Bytes.{MadeOf, joined_made, made_wider, mapped_made, prefixed_made, optional_made, run_made}
-use Rattle.semver_base.proofs.Identifiers.{identifiers_made, is_identifiers_byte}
-use Rattle.semver_base.proofs.Qualifiers.{pre_made}
-use Rattle.semver_base.proofs.ReadVersions.{read_writable}
+use Rattle.semver_base.specs.ByteLaws.{MadeOf, joined_made, made_wider, mapped_made, prefixed_made, optional_made, run_made}
+use Rattle.semver_base.specs.TokenLaws.{identifiers_made, is_identifiers_byte, pre_made}
 use Rattle.semver_base.proofs.WrittenVersions.{version_joined}
+use Rattle.semver_base.specs.WrittenLaws.{read_writable}
 
 digit_passes : (b : ℕ) → is_ascii_digit b ≡ true → is_version_text_byte b ≡ true
 digit_passes b h = grind (arith, nat_tests)

@@ -14,14 +14,12 @@ use Rattle.semver_base.specs.declared.failure.Rejection.TheVariants.{UnexpectedC
 use Rattle.semver_base.specs.declared.lexical.values.Qualifier.{Qualifier}
 use Rattle.semver_base.specs.declared.lexical.values.Strictness.TheVariants.{Loose}
 use Rattle.semver_base.specs.declared.version.Version.{Version}
-use Rattle.semver_base.proofs.Readings.{Unambiguous, after_one, followed_one, joined_one, mapped_one, prefixed_one}
-use Rattle.semver_base.proofs.WordReadings.{loose_one, qualifier_one}
-use Rattle.semver_base.proofs.Fronts.{Apart, NoClash, NonEmpty, followed, followed_none_second, joined, joined_none_first, mapped, mapped_none, optional_none, optional_some, prefixed_none, prefixed_some, no_clash, one_front, rest_is}
-use Rattle.semver_base.proofs.Bytes.{BeginsBy, Disjoint, GoesBy, MadeOf, apart_by, begins_from_made, begins_wider, goes_from_made, goes_wider, joined_begins, joined_begins_either, joined_goes_second, joined_made, joined_some_text, made_wider, mapped_begins, mapped_made, prefixed_begins, prefixed_goes, prefixed_made, prefixed_some_text, optional_begins, optional_goes, optional_made}
-use Rattle.semver_base.proofs.Lists.{run_longest}
-use Rattle.semver_base.proofs.Numbers.{loose_begins, loose_end, loose_goes, loose_some}
-use Rattle.semver_base.proofs.Identifiers.{byte_begins, byte_goes, byte_longest, byte_none, byte_some}
-use Rattle.semver_base.proofs.Whitespace.{whitespace_made, is_whitespace_byte}
+use Rattle.semver_base.specs.ValueLaws.{Unambiguous, after_one, followed_one, joined_one, mapped_one, prefixed_one}
+use Rattle.semver_base.specs.GrammarLaws.{Apart, NoClash, NonEmpty, followed, followed_none_second, joined, joined_none_first, mapped, mapped_none, optional_none, optional_some, prefixed_none, prefixed_some, no_clash, one_front, rest_is}
+use Rattle.semver_base.specs.ByteLaws.{BeginsBy, Disjoint, GoesBy, MadeOf, apart_by, begins_from_made, begins_wider, goes_from_made, goes_wider, joined_begins, joined_begins_either, joined_goes_second, joined_made, joined_some_text, made_wider, mapped_begins, mapped_made, prefixed_begins, prefixed_goes, prefixed_made, prefixed_some_text, optional_begins, optional_goes, optional_made}
+use Rattle.semver_base.specs.ListLaws.{run_longest}
+use Rattle.semver_base.specs.TokenLaws.{byte_begins, byte_goes, byte_longest, byte_none, byte_some, loose_one, qualifier_one, loose_begins, loose_end, loose_goes, loose_some}
+use Rattle.semver_base.specs.WhitespaceLaws.{whitespace_made, is_whitespace_byte}
 
 -- ---- the lead
 

@@ -484,7 +484,7 @@ impl VersionRange {
 
     /// Whether the end is exclusive and at 0.0.0, whatever its pre-release, so that no release matches. The end of
     /// [`VersionRange::none`] is one.
-    #[tactic(auto, using(crate::proofs::OverlapLemmas::ends_no_release))]
+    #[tactic(auto, using(crate::specs::OverlapLaws::ends_no_release))]
     pub fn is_none(&self) -> bool
         ensures value { result ≡ ends_at_zero self.now.end }
         ensures no_release { OnTrue result (HoldsNoRelease self.now) }

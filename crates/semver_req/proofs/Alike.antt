@@ -9,9 +9,9 @@ use Rattle.semver_base.specs.Grammar.{Either, this, that, Followed, IsText, Join
 use Rattle.semver_base.specs.Lexical.{IsWhitespace, IsByte, IsSomeWhitespace, is_identifier_byte}
 use Rattle.semver_base.specs.declared.partial.PrimitiveKind.{PrimitiveKind}
 use Rattle.semver_base.specs.declared.partial.PrimitiveKind.TheVariants.{GreaterThan, LessThan, GreaterThanOrEqual, LessThanOrEqual, Equal}
-use Rattle.semver_base.proofs.Whitespace.{whitespace_made, is_whitespace_byte}
-use Rattle.semver_base.proofs.Bytes.{list_all-wider}
-use Rattle.semver_base.proofs.Fronts.{fronts, same, shorter, longer}
+use Rattle.semver_base.specs.WhitespaceLaws.{whitespace_made, is_whitespace_byte}
+use Rattle.semver_base.specs.ByteLaws.{list_all-wider}
+use Rattle.semver_base.specs.GrammarLaws.{fronts, same, shorter, longer}
 use Rattle.semver_req.specs.Partials.{is_wildcard}
 use Rattle.semver_req.specs.declared.common.values.Flavour.{Flavour}
 use Rattle.semver_req.proofs.Endings.{AsksFirst}

@@ -8,8 +8,8 @@ use Rattle.std.proofs.lemmas.Str.{IsUtf8-append, IsUtf8-nil, encode_ascii}
 use Rattle.semver_base.specs.Comparators.{Comparator}
 use Rattle.semver_base.specs.Grammar.{After, Either, this, that, IsText}
 use Rattle.semver_base.specs.Lexical.{IsWhitespace, IsSomeWhitespace, is_identifier_byte}
-use Rattle.semver_base.proofs.Fronts.{fronts, same, shorter, longer}
-use Rattle.semver_base.proofs.Whitespace.{is_whitespace_byte}
+use Rattle.semver_base.specs.GrammarLaws.{fronts, same, shorter, longer}
+use Rattle.semver_base.specs.WhitespaceLaws.{is_whitespace_byte}
 use Rattle.semver_req.specs.Comparators.{IsComparator, IsEquals, no_more, one_more, IsIgnored, IsLed, IsNpmCaret, IsNpmTilde}
 use Rattle.semver_req.specs.Outcome.{IsSpecifierRange}
 use Rattle.semver_req.specs.Partials.{IsPartial, is_wildcard}

@@ -7,7 +7,7 @@ use Rattle.semver_base.specs.Lexical.{IsIdentifiers, IsLooseNumber, IsLoosePre, 
 use Rattle.semver_base.specs.declared.lexical.values.Strictness.{Strictness}
 use Rattle.semver_base.specs.declared.lexical.values.Strictness.TheVariants.{Loose, Strict}
 use Rattle.semver_base.specs.declared.partial.XRange.TheVariants.{Wildcard, Val}
-use Rattle.semver_base.proofs.Fronts.{fronts, same, shorter, longer}
+use Rattle.semver_base.specs.GrammarLaws.{fronts, same, shorter, longer}
 use Rattle.semver_req.specs.Comparators.{IsComparator, HasOperator, IsOfPrimitive, IsBare}
 use Rattle.semver_req.specs.Partials.{IsComponent, IsPartial, IsBarePartial, IsSecond, IsThird, is_wildcard, strictness_of}
 use Rattle.semver_req.specs.Pieces.{IsFilled}

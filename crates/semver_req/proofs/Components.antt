@@ -9,10 +9,9 @@ use Rattle.semver_base.specs.declared.lexical.values.Measured.{Measured}
 use Rattle.semver_base.specs.declared.lexical.values.Qualifier.{Qualifier}
 use Rattle.semver_base.specs.declared.partial.XRange.{XRange}
 use Rattle.semver_base.specs.declared.partial.XRange.TheVariants.{Wildcard, Val}
-use Rattle.semver_base.proofs.Fronts.{NoClash, NonEmpty, joined, prefixed_some}
-use Rattle.semver_base.proofs.Bytes.{BeginsBy, GoesBy}
-use Rattle.semver_base.proofs.Numbers.{loose_begins, loose_end, loose_goes, loose_some, number_is_loose}
-use Rattle.semver_base.proofs.Qualifiers.{strict_no_digit}
+use Rattle.semver_base.specs.GrammarLaws.{NoClash, NonEmpty, joined, prefixed_some}
+use Rattle.semver_base.specs.ByteLaws.{BeginsBy, GoesBy}
+use Rattle.semver_base.specs.TokenLaws.{loose_begins, loose_end, loose_goes, loose_some, number_is_loose, strict_no_digit}
 use Rattle.semver_req.specs.Partials.{IsComponent, IsThird, component_of, is_wildcard, sized_component, strictness_of}
 use Rattle.semver_req.specs.declared.common.values.Flavour.{Flavour}
 use Rattle.semver_req.specs.declared.common.values.Flavour.TheVariants.{Npm, Normal, Specifier}

@@ -4,7 +4,7 @@ use Rattle.std.specs.List.{list_all}
 use Rattle.std.proofs.lemmas.Bool.{and_from, and_parts}
 use Rattle.semver_base.specs.Grammar.{After, Before, Either, this, that, Followed, Joined, Listed, last_item, closed_item, more_items, Mapped, Optional, Prefixed, Run}
 use Rattle.semver_base.specs.Lexical.{IsByte}
-use Rattle.semver_base.proofs.Fronts.{fronts, same, shorter, longer}
+use Rattle.semver_base.specs.GrammarLaws.{fronts, same, shorter, longer}
 
 -- the text is empty, or begins with a byte that begins a character
 abbrev pub Starts : List ℕ → Type 0

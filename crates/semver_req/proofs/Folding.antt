@@ -22,11 +22,10 @@ use Rattle.semver_base.specs.declared.range.VersionBoundKind.{VersionBoundKind}
 use Rattle.semver_base.specs.declared.range.VersionBoundKind.TheVariants as kind
 use Rattle.semver_base.specs.declared.range.VersionRange.{VersionRange}
 use Rattle.semver_base.specs.declared.version.Version.{Version}
-use Rattle.semver_base.proofs.ClampLemmas.{clamped_bounds, clamped_empty}
-use Rattle.semver_base.proofs.ClampMeaning.{clamped_means}
+use Rattle.semver_base.specs.ClampLaws.{clamped_bounds, clamped_empty, clamped_means}
 use Rattle.std.proofs.Math.Bool.{and-false}
-use Rattle.semver_base.proofs.Orders.{never_both}
-use Rattle.semver_base.proofs.OverlapLemmas.{ends_no_release}
+use Rattle.semver_base.specs.OrderLaws.{never_both}
+use Rattle.semver_base.specs.OverlapLaws.{ends_no_release}
 use Rattle.semver_req.specs.RetainedSet.{RetainedSetsMeanTheirTrees, folded, retained, retained_range}
 use Rattle.semver_req.specs.Outcome.{tree_ranges}
 use Rattle.semver_req.specs.declared.common.values.Flavour.TheVariants.{Npm, Normal, Specifier}

@@ -5,7 +5,7 @@ use Rattle.semver_base.specs.Grammar.{HasNone, IsLongest, IsSeen, ReadsAs}
 use Rattle.semver_base.specs.Lexical.{IsWhitespace, IsSomeWhitespace}
 use Rattle.semver_base.specs.declared.lexical.values.Measured.{Measured}
 use Rattle.semver_base.specs.declared.partial.Partial.{Partial}
-use Rattle.semver_base.proofs.Fronts.{followed, followed_none_second, joined_none_first, mapped, mapped_none, prefixed_none, prefixed_other, prefixed_some}
+use Rattle.semver_base.specs.GrammarLaws.{followed, followed_none_second, joined_none_first, mapped, mapped_none, prefixed_none, prefixed_other, prefixed_some}
 use Rattle.semver_req.specs.Partials.{IsPartial, sized_partial}
 use Rattle.semver_req.specs.PieceSteps.{sized_hyphen}
 use Rattle.semver_req.specs.Pieces.{IsHyphen, IsHyphened, IsHyphenPair, IsUpper}

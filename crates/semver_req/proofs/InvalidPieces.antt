@@ -6,7 +6,7 @@ use Rattle.std.specs.Str.{IsTrimStart, trim_end, trim_start}
 use Rattle.semver_base.specs.Comparators.{Comparator}
 use Rattle.semver_base.specs.Grammar.{IsLongest}
 use Rattle.semver_base.specs.Lexical.{IsWhitespace}
-use Rattle.semver_base.proofs.Whitespace.{whitespace_longest}
+use Rattle.semver_base.specs.WhitespaceLaws.{whitespace_longest}
 use Rattle.semver_req.specs.Comparators.{fits}
 use Rattle.semver_req.specs.Outcome.{IsSpecifierRange}
 use Rattle.semver_req.specs.Pieces.{AreMorePieces, no_piece, last_piece, cut_piece, ArePieces, one_piece, first_cut, HasNoBar, IsCutAt, IsTrimmed}

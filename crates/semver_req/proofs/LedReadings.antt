@@ -7,10 +7,10 @@ use Rattle.std.proofs.lemmas.Str.{NoCharPasses-append, NoCharPasses-nil}
 use Rattle.semver_base.specs.Grammar.{After, Either, this, that, HasNone, IsLongest, Prefixed, Optional, ReadsAs}
 use Rattle.semver_base.specs.Lexical.{IsWhitespace, IsByte}
 use Rattle.semver_base.specs.declared.partial.Partial.{Partial}
-use Rattle.semver_base.proofs.Whitespace.{whitespace_made, is_whitespace_byte}
-use Rattle.semver_base.proofs.Bytes.{BeginsBy, Disjoint, apart_by, begins_from_made, begins_wider, either_begins, goes_from_made, joined_begins_either, mapped_begins, prefixed_begins, none_by_byte}
-use Rattle.semver_base.proofs.Fronts.{Apart, either_none, either_that, either_this, followed, followed_none_second, mapped, mapped_none, prefixed_none, prefixed_other, prefixed_some, narrowed, narrowed_none}
-use Rattle.semver_base.proofs.Readings.{after_maps, after_of, after_parts}
+use Rattle.semver_base.specs.WhitespaceLaws.{whitespace_made, is_whitespace_byte}
+use Rattle.semver_base.specs.ByteLaws.{BeginsBy, Disjoint, apart_by, begins_from_made, begins_wider, either_begins, goes_from_made, joined_begins_either, mapped_begins, prefixed_begins, none_by_byte}
+use Rattle.semver_base.specs.GrammarLaws.{Apart, either_none, either_that, either_this, followed, followed_none_second, mapped, mapped_none, prefixed_none, prefixed_other, prefixed_some, narrowed, narrowed_none}
+use Rattle.semver_base.specs.ValueLaws.{after_maps, after_of, after_parts}
 use Rattle.semver_req.specs.Comparators.{IsEquals, one_more, IsLed}
 use Rattle.semver_req.specs.Partials.{IsPartial, IsBarePartial}
 use Rattle.semver_req.specs.declared.common.values.Flavour.TheVariants.{Npm}

@@ -9,9 +9,9 @@ use Rattle.semver_base.specs.Lexical.{IsWhitespace, IsSomeWhitespace}
 use Rattle.semver_base.specs.declared.lexical.values.Measured.{Measured}
 use Rattle.semver_base.specs.declared.partial.Partial.{Partial}
 use Rattle.semver_base.specs.declared.partial.PrimitiveKind.{PrimitiveKind}
-use Rattle.semver_base.proofs.Whitespace.{is_whitespace_byte}
-use Rattle.semver_base.proofs.Bytes.{BeginsBy, Disjoint, GoesBy, apart_by, begins_from_made, goes_from_made, joined_begins, joined_some_text, mapped_begins, prefixed_begins}
-use Rattle.semver_base.proofs.Fronts.{Apart, either_longer, either_none, either_that, either_this, followed, followed_none_second, joined_none_first, mapped, mapped_none, prefixed_none, prefixed_other, prefixed_some, optional_none, optional_some}
+use Rattle.semver_base.specs.WhitespaceLaws.{is_whitespace_byte}
+use Rattle.semver_base.specs.ByteLaws.{BeginsBy, Disjoint, GoesBy, apart_by, begins_from_made, goes_from_made, joined_begins, joined_some_text, mapped_begins, prefixed_begins}
+use Rattle.semver_base.specs.GrammarLaws.{Apart, either_longer, either_none, either_that, either_this, followed, followed_none_second, joined_none_first, mapped, mapped_none, prefixed_none, prefixed_other, prefixed_some, optional_none, optional_some}
 use Rattle.semver_req.specs.Comparators.{IsComparator, IsEquals, IsIgnored, IsLed, IsNpmCaret, IsNpmTilde, IsOfPrimitive, IsBare, IsPrimitiveKind, no_more, one_more}
 use Rattle.semver_req.specs.Partials.{IsPartial, sized_partial}
 use Rattle.semver_req.specs.Written.{IsNpmFront, IsNpmOperatorCut, IsTildes, ReadsByOperator, ReadsComparator, ReadsOperatorForm, comparator_of, with_operator}

@@ -3,7 +3,7 @@ use Rattle.std.proofs.Common.{◌≡◌, ◌<◌, ℕ, Bool, true, false, List, 
 use Rattle.std.specs.Str.{trim}
 use Rattle.semver_base.specs.Comparators.{Comparator}
 use Rattle.semver_base.specs.Grammar.{HasNone, IsLongest}
-use Rattle.semver_base.proofs.Fronts.{one_front, same_fronts}
+use Rattle.semver_base.specs.GrammarLaws.{one_front, same_fronts}
 use Rattle.semver_req.specs.Comparators.{fits}
 use Rattle.semver_req.specs.Outcome.{AreGoodOnes, IsBad, IsCutOutcome, IsGood, IsSpecifierOutcome, IsSpecifierRange, IsTagOr, Outcome, Ranges, TextsHaveOneOutcome, bad, good, left_over, no_fit, no_front, no_tag, none_left, normal_many, normal_rejected, npm_many, one_bad, one_good, tag, whole}
 use Rattle.semver_req.specs.Pieces.{AreMorePieces, no_piece, last_piece, cut_piece, ArePieces, one_piece, first_cut, HasNoBar, IsCutAt, IsTrimmed}

@@ -6,9 +6,9 @@ use Rattle.semver_base.specs.Lexical.{IsWhitespace}
 use Rattle.semver_base.specs.declared.lexical.values.Measured.{Measured}
 use Rattle.semver_base.specs.declared.partial.Partial.{Partial}
 use Rattle.semver_base.specs.declared.partial.PrimitiveKind.{PrimitiveKind}
-use Rattle.semver_base.proofs.Bytes.{Disjoint, none_by_byte}
-use Rattle.semver_base.proofs.Fronts.{NonEmpty, either_none, either_that, either_this, followed, joined_none_first, mapped, mapped_none, prefixed_none, prefixed_other, prefixed_some}
-use Rattle.semver_base.proofs.Readings.{some_within}
+use Rattle.semver_base.specs.ByteLaws.{Disjoint, none_by_byte}
+use Rattle.semver_base.specs.GrammarLaws.{NonEmpty, either_none, either_that, either_this, followed, joined_none_first, mapped, mapped_none, prefixed_none, prefixed_other, prefixed_some}
+use Rattle.semver_base.specs.ValueLaws.{some_within}
 use Rattle.semver_req.specs.Comparators.{IsComparator, HasOperator, IsBare, IsPrimitiveKind}
 use Rattle.semver_req.specs.Partials.{IsPartial, sized_partial}
 use Rattle.semver_req.specs.Written.{IsFront, IsOperatorCut, IsNonPrimitive, ReadsComparator}

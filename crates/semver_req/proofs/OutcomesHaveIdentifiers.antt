@@ -9,7 +9,7 @@ use Rattle.semver_base.specs.declared.lexical.values.Qualifier.{Qualifier}
 use Rattle.semver_base.specs.declared.partial.Partial.{Partial}
 use Rattle.semver_base.specs.declared.partial.XRange.{XRange}
 use Rattle.semver_base.specs.declared.range.VersionRange.{VersionRange}
-use Rattle.semver_base.proofs.ReadVersions.{by_after, by_mapped, by_prefixed, qualifier_has}
+use Rattle.semver_base.specs.WrittenLaws.{by_after, by_mapped, by_prefixed, qualifier_has}
 use Rattle.semver_req.specs.Comparators.{fits, IsComparator, IsLed, HasOperator, IsOfPrimitive, IsBare}
 use Rattle.semver_req.specs.RetainedSet.{retained}
 use Rattle.semver_req.specs.Outcome.{AreGoodOnes, IsCutOutcome, IsGood, IsOutcome, IsSpecifierOutcome, IsTagOr, Outcome, Ranges, Rejected, Tag, bad, good, left_over, no_fit, no_front, no_tag, none_left, normal_many, normal_rejected, npm_many, one_bad, one_good, tag, whole}

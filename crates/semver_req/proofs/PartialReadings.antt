@@ -6,10 +6,9 @@ use Rattle.std.proofs.lemmas.Bool.{or_left}
 use Rattle.std.proofs.lemmas.Bool.Decides.{nat_tests}
 use Rattle.semver_base.specs.declared.partial.XRange.{XRange}
 use Rattle.semver_base.specs.declared.partial.XRange.TheVariants.{Wildcard, Val}
-use Rattle.semver_base.proofs.Bytes.{Disjoint, MadeOf, joined_made, made_wider, mapped_made, prefixed_begins, prefixed_made, prefixed_some_text, optional_made}
-use Rattle.semver_base.proofs.Numbers.{loose_begins, loose_some}
-use Rattle.semver_base.proofs.Readings.{Unambiguous, either_one, followed_one, joined_one, mapped_one, prefixed_one, never_by, optional_one}
-use Rattle.semver_base.proofs.WordReadings.{is_qualifier_byte, number_made, number_one, qualifier_made, qualifier_one}
+use Rattle.semver_base.specs.ByteLaws.{Disjoint, MadeOf, joined_made, made_wider, mapped_made, prefixed_begins, prefixed_made, prefixed_some_text, optional_made}
+use Rattle.semver_base.specs.ValueLaws.{Unambiguous, either_one, followed_one, joined_one, mapped_one, prefixed_one, never_by, optional_one}
+use Rattle.semver_base.specs.TokenLaws.{loose_begins, loose_some, is_qualifier_byte, number_made, number_one, qualifier_made, qualifier_one}
 use Rattle.semver_req.specs.Partials.{IsComponent, IsPartial, IsBarePartial, IsSecond, IsThird, strictness_of}
 use Rattle.semver_req.specs.declared.common.values.Flavour.{Flavour}
 use Rattle.semver_req.specs.declared.common.values.Flavour.TheVariants.{Npm, Normal, Specifier}

@@ -11,8 +11,8 @@ use Rattle.semver_base.specs.declared.lexical.values.Qualifier.{Qualifier}
 use Rattle.semver_base.specs.declared.partial.Partial.{Partial}
 use Rattle.semver_base.specs.declared.partial.XRange.{XRange}
 use Rattle.semver_base.specs.declared.partial.XRange.TheVariants.{Wildcard}
-use Rattle.semver_base.proofs.Fronts.{Apart, NonEmpty, either_none, either_that, either_this, prefixed_none, prefixed_other, followed, mapped, prefixed_some, optional_none, optional_some}
-use Rattle.semver_base.proofs.Bytes.{BeginsBy, Disjoint, apart_by, joined_begins, joined_some_text, mapped_begins, mapped_some_text, none_by_byte, prefixed_begins, prefixed_some_text, optional_begins}
+use Rattle.semver_base.specs.GrammarLaws.{Apart, NonEmpty, either_none, either_that, either_this, prefixed_none, prefixed_other, followed, mapped, prefixed_some, optional_none, optional_some}
+use Rattle.semver_base.specs.ByteLaws.{BeginsBy, Disjoint, apart_by, joined_begins, joined_some_text, mapped_begins, mapped_some_text, none_by_byte, prefixed_begins, prefixed_some_text, optional_begins}
 use Rattle.semver_req.specs.Partials.{IsComponent, IsPartial, IsBarePartial, assembled, component_fits, partial_of, sized_component, sized_partial, strictness_of}
 use Rattle.semver_req.specs.declared.common.values.Flavour.{Flavour}
 use Rattle.semver_req.specs.declared.common.values.Flavour.TheVariants.{Npm}

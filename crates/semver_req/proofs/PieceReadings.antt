@@ -7,11 +7,11 @@ use Rattle.semver_base.specs.Comparators.{Comparator}
 use Rattle.semver_base.specs.Grammar.{After, this, that, IsLongest, Listed, last_item, closed_item, more_items, Prefixed, Stops}
 use Rattle.semver_base.specs.Lexical.{IsWhitespace, IsSomeWhitespace}
 use Rattle.semver_base.specs.declared.partial.Partial.{Partial}
-use Rattle.semver_base.proofs.Whitespace.{whitespace_made, is_whitespace_byte}
-use Rattle.semver_base.proofs.Bytes.{BeginsBy, Disjoint, GoesBy, MadeOf, apart_by, begins_from_made, begins_wider, either_begins, either_made, goes_from_made, joined_begins, joined_made, joined_some_second, joined_some_text, made_wider, mapped_begins, mapped_made, mapped_some_text, prefixed_begins}
-use Rattle.semver_base.proofs.Fronts.{Apart, NonEmpty, one_front}
-use Rattle.semver_base.proofs.Lists.{IsListing, listed_begins, listed_some}
-use Rattle.semver_base.proofs.Readings.{EachByte, Never, Unambiguous, after_one, before_one, each_made, either_one, followed_one, goes_within, in_place, listed_one, mapped_one, prefixed_one, never_by, some_within, unit_one}
+use Rattle.semver_base.specs.WhitespaceLaws.{whitespace_made, is_whitespace_byte}
+use Rattle.semver_base.specs.ByteLaws.{BeginsBy, Disjoint, GoesBy, MadeOf, apart_by, begins_from_made, begins_wider, either_begins, either_made, goes_from_made, joined_begins, joined_made, joined_some_second, joined_some_text, made_wider, mapped_begins, mapped_made, mapped_some_text, prefixed_begins}
+use Rattle.semver_base.specs.GrammarLaws.{Apart, NonEmpty, one_front}
+use Rattle.semver_base.specs.ListLaws.{IsListing, listed_begins, listed_some}
+use Rattle.semver_base.specs.ValueLaws.{EachByte, Never, Unambiguous, after_one, before_one, each_made, either_one, followed_one, goes_within, in_place, listed_one, mapped_one, prefixed_one, never_by, some_within, unit_one}
 use Rattle.semver_req.specs.Comparators.{IsComparator}
 use Rattle.semver_req.specs.Partials.{IsPartial}
 use Rattle.semver_req.specs.Pieces.{IsFilled, IsHyphen, IsHyphened, IsListOperator, IsNpmSeparator, IsPiece, IsSeparator, IsUpper}

@@ -16,7 +16,7 @@ use Rattle.semver_base.specs.declared.failure.Rejection.{Rejection}
 use Rattle.semver_base.specs.declared.failure.Rejection.TheVariants.{BoundTooLarge, NumberTooLarge, UnexpectedCharacter}
 use Rattle.semver_base.specs.declared.partial.Partial.{Partial}
 use Rattle.semver_base.specs.declared.range.VersionRange.{VersionRange}
-use Rattle.semver_base.proofs.Whitespace.{whitespace_whole}
+use Rattle.semver_base.specs.WhitespaceLaws.{whitespace_whole}
 use Rattle.semver_req.specs.Comparators.{IsComparator, fits}
 use Rattle.semver_req.specs.RetainedSet.{folded, retained, retained_range, without_none}
 use Rattle.semver_req.specs.Outcome.{AreGoodOnes, none_left, good, bad, IsBad, IsGood, IsCutOutcome, one_good, one_bad, npm_many, normal_many, normal_rejected, IsTagOr, tag, no_tag, Outcome, Ranges, Tag, Rejected}

@@ -12,7 +12,7 @@ use Rattle.semver_base.specs.VersionText.{IsWritable}
 use Rattle.semver_base.specs.declared.range.VersionRange.{VersionRange}
 use Rattle.semver_base.specs.declared.version.Version.{Version}
 use Rattle.std.proofs.Math.Bool.{or-false}
-use Rattle.semver_base.proofs.ReadVersions.{read_writable}
+use Rattle.semver_base.specs.WrittenLaws.{read_writable}
 use Rattle.semver_req.specs.RetainedSet.{IsReadSet}
 use Rattle.semver_req.specs.Pieces.{normal}
 use Rattle.semver_req.specs.Requirement.{PinsTo, inner_means, pinned}

@@ -9,9 +9,9 @@ use Rattle.semver_base.specs.declared.lexical.values.Measured.{Measured}
 use Rattle.semver_base.specs.declared.partial.Partial.{Partial}
 use Rattle.semver_base.specs.declared.partial.PrimitiveKind.{PrimitiveKind}
 use Rattle.semver_base.specs.declared.partial.PrimitiveKind.TheVariants.{Equal, GreaterThan, GreaterThanOrEqual, LessThan, LessThanOrEqual}
-use Rattle.semver_base.proofs.Whitespace.{whitespace_made, is_whitespace_byte}
-use Rattle.semver_base.proofs.Bytes.{BeginsBy, Disjoint, GoesBy, apart_by, begins_from_made, begins_wider, either_begins, goes_from_made, joined_begins_either, mapped_begins, prefixed_begins}
-use Rattle.semver_base.proofs.Fronts.{Apart, followed, followed_none_second, mapped, mapped_none}
+use Rattle.semver_base.specs.WhitespaceLaws.{whitespace_made, is_whitespace_byte}
+use Rattle.semver_base.specs.ByteLaws.{BeginsBy, Disjoint, GoesBy, apart_by, begins_from_made, begins_wider, either_begins, goes_from_made, joined_begins_either, mapped_begins, prefixed_begins}
+use Rattle.semver_base.specs.GrammarLaws.{Apart, followed, followed_none_second, mapped, mapped_none}
 use Rattle.semver_req.specs.Comparators.{IsPrimitive, IsPrimitiveKind, primitive_of, sized_primitive}
 use Rattle.semver_req.specs.Partials.{IsPartial, IsBarePartial, partial_fits, sized_partial}
 use Rattle.semver_req.specs.declared.common.values.Flavour.{Flavour}

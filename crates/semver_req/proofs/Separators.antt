@@ -5,9 +5,9 @@ use Rattle.std.proofs.lemmas.Bool.{cases_lt, eq-eqb, or_left, or_right}
 use Rattle.std.proofs.lemmas.Bool.Decides.{nat_tests}
 use Rattle.semver_base.specs.Grammar.{After, this, that, HasNone, IsLongest, IsText, Reads}
 use Rattle.semver_base.specs.Lexical.{IsWhitespace}
-use Rattle.semver_base.proofs.Whitespace.{whitespace_made, is_whitespace_byte, no_whitespace, some_whitespace}
-use Rattle.semver_base.proofs.Bytes.{BeginsBy, Disjoint, apart_by, goes_from_made, joined_begins, mapped_begins}
-use Rattle.semver_base.proofs.Fronts.{Apart, NonEmpty, either_longer, either_none, either_that, either_this, followed, followed_none_second, joined_none_first, mapped, mapped_none}
+use Rattle.semver_base.specs.WhitespaceLaws.{whitespace_made, is_whitespace_byte, no_whitespace, some_whitespace}
+use Rattle.semver_base.specs.ByteLaws.{BeginsBy, Disjoint, apart_by, goes_from_made, joined_begins, mapped_begins}
+use Rattle.semver_base.specs.GrammarLaws.{Apart, NonEmpty, either_longer, either_none, either_that, either_this, followed, followed_none_second, joined_none_first, mapped, mapped_none}
 use Rattle.semver_req.specs.Pieces.{IsListOperator, IsNpmSeparator, IsOperator}
 use Rattle.semver_req.proofs.PieceReadings.{operator_some}
 

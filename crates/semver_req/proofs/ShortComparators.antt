@@ -32,13 +32,12 @@ use Rattle.semver_base.specs.declared.range.VersionBoundKind.{VersionBoundKind}
 use Rattle.semver_base.specs.declared.range.VersionBoundKind.TheVariants as kind
 use Rattle.semver_base.specs.declared.range.VersionRange.{VersionRange}
 use Rattle.semver_base.specs.declared.version.Version.{Version}
-use Rattle.semver_base.proofs.Bytes.{list_all-append, list_all-wider}
-use Rattle.semver_base.proofs.Fronts.{prefixed_other}
-use Rattle.semver_base.proofs.Numbers.{loose_begins, loose_some}
-use Rattle.semver_base.proofs.WrittenVersions.{after}
-use Rattle.semver_base.proofs.ShortTexts.{short_solid, IsSolid}
-use Rattle.semver_base.proofs.Qualifiers.{no_qualifier}
-use Rattle.semver_base.proofs.Solid.{ends_solid, is_solid_byte, qualifier_made, solid_all_ascii, starts_solid, trim_same}
+use Rattle.semver_base.specs.ByteLaws.{list_all-append, list_all-wider}
+use Rattle.semver_base.specs.GrammarLaws.{prefixed_other}
+use Rattle.semver_base.specs.SolidLaws.{ends_solid, is_solid_byte, qualifier_made, solid_all_ascii, starts_solid, trim_same}
+use Rattle.semver_base.specs.TokenLaws.{loose_begins, loose_some, no_qualifier}
+use Rattle.semver_base.specs.WrittenLaws.{after}
+use Rattle.semver_base.specs.ShortLaws.{short_solid, IsSolid}
 use Rattle.semver_req.specs.Comparators.{IsComparator, IsPrimitive, numbers}
 use Rattle.semver_req.specs.RetainedSet.{retained, retained_range, without_none}
 use Rattle.semver_req.specs.Outcome.{one_good, Ranges}

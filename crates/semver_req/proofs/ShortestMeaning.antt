@@ -19,7 +19,7 @@ use Rattle.semver_base.specs.declared.range.VersionBoundKind.{VersionBoundKind}
 use Rattle.semver_base.specs.declared.range.VersionBoundKind.TheVariants as kind
 use Rattle.semver_base.specs.declared.range.VersionRange.{VersionRange}
 use Rattle.semver_base.specs.declared.version.Version.{Version}
-use Rattle.semver_base.proofs.ShortVersions.{short_is}
+use Rattle.semver_base.specs.ShortLaws.{short_is}
 use Rattle.semver_req.specs.Rereading.{has_own_form, is_pre_of_zero, keeps_meaning, keeps_start}
 use Rattle.semver_req.proofs.Starts.{has_start, starts_or_is_open}
 

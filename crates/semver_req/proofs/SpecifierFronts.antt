@@ -11,13 +11,11 @@ use Rattle.semver_base.specs.declared.lexical.values.Strictness.TheVariants.{Loo
 use Rattle.semver_base.specs.declared.partial.Partial.{Partial}
 use Rattle.semver_base.specs.declared.partial.XRange.{XRange}
 use Rattle.semver_base.specs.declared.partial.XRange.TheVariants.{Val, Wildcard}
-use Rattle.semver_base.proofs.Fronts.{Apart, fronts, longer, same, shorter}
-use Rattle.semver_base.proofs.Numbers.{loose_goes, loose_some, strict_zero}
-use Rattle.semver_base.proofs.Readings.{in_place}
-use Rattle.semver_base.proofs.WordReadings.{number_one}
+use Rattle.semver_base.specs.GrammarLaws.{Apart, fronts, longer, same, shorter}
+use Rattle.semver_base.specs.ValueLaws.{in_place}
 use Rattle.semver_req.specs.Partials.{IsComponent, IsBarePartial, IsSecond, IsThird, is_wildcard, partial_of}
 use Rattle.semver_req.specs.declared.common.values.Flavour.TheVariants.{Normal, Specifier}
-use Rattle.semver_base.proofs.Qualifiers.{strict_no_digit}
+use Rattle.semver_base.specs.TokenLaws.{loose_goes, loose_some, strict_zero, number_one, strict_no_digit}
 use Rattle.semver_req.proofs.Components.{component_goes, component_number, component_wildcard, wildcard_no_digit}
 use Rattle.semver_req.proofs.Partials.{component_dot_apart}
 

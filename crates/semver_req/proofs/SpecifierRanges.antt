@@ -9,9 +9,9 @@ use Rattle.semver_base.specs.Lexical.{IsWhitespace}
 use Rattle.semver_base.specs.declared.failure.Rejection.{Rejection}
 use Rattle.semver_base.specs.declared.failure.Rejection.TheVariants.{UnexpectedCharacter}
 use Rattle.semver_base.specs.declared.range.VersionRange.{VersionRange}
-use Rattle.semver_base.proofs.Whitespace.{whitespace_made, is_whitespace_byte}
-use Rattle.semver_base.proofs.Bytes.{BeginsBy, Disjoint, begins_from_made, begins_wider, either_begins, mapped_begins, none_by_byte, prefixed_begins}
-use Rattle.semver_base.proofs.Fronts.{NonEmpty}
+use Rattle.semver_base.specs.WhitespaceLaws.{whitespace_made, is_whitespace_byte}
+use Rattle.semver_base.specs.ByteLaws.{BeginsBy, Disjoint, begins_from_made, begins_wider, either_begins, mapped_begins, none_by_byte, prefixed_begins}
+use Rattle.semver_base.specs.GrammarLaws.{NonEmpty}
 use Rattle.semver_req.specs.Outcome.{IsSpecifierOutcome, IsSpecifierRange, IsTagOr, Outcome, Ranges, Rejected, Tag, left_over, no_fit, no_front, no_tag, tag, whole}
 use Rattle.semver_req.specs.Parsers.{Failure, IsReading}
 use Rattle.semver_req.specs.Single.{IsSingle, absent, is_followed, is_range, over_bound, over_number}

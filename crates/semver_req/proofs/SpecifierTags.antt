@@ -11,7 +11,7 @@ use Rattle.semver_base.specs.Lexical.{IsSomeWhitespace}
 use Rattle.semver_base.specs.declared.partial.Partial.{Partial}
 use Rattle.semver_base.specs.declared.partial.PrimitiveKind.{PrimitiveKind}
 use Rattle.semver_base.specs.declared.partial.PrimitiveKind.TheVariants.{Equal, GreaterThan, GreaterThanOrEqual, LessThan, LessThanOrEqual}
-use Rattle.semver_base.proofs.Whitespace.{whitespace_made, is_whitespace_byte}
+use Rattle.semver_base.specs.WhitespaceLaws.{whitespace_made, is_whitespace_byte}
 use Rattle.semver_req.specs.Comparators.{IsComparator, fits}
 use Rattle.semver_req.specs.Outcome.{IsGood, IsSpecifierOutcome, IsSpecifierRange, Tag, no_fit, no_front, tag}
 use Rattle.semver_req.specs.Partials.{IsBarePartial}

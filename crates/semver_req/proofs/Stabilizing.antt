@@ -16,7 +16,7 @@ use Rattle.semver_base.specs.declared.range.VersionBoundKind.{VersionBoundKind}
 use Rattle.semver_base.specs.declared.range.VersionBoundKind.TheVariants as kind
 use Rattle.semver_base.specs.declared.range.VersionRange.{VersionRange}
 use Rattle.semver_base.specs.declared.version.Version.{Version}
-use Rattle.semver_base.proofs.ShortVersions.{short_is}
+use Rattle.semver_base.specs.ShortLaws.{short_is}
 use Rattle.semver_req.specs.RetainedSet.{retained_range}
 use Rattle.semver_req.specs.Stable.{IsStable, all, no_end, one_version, short, ordered, empty_at_end, reread}
 use Rattle.semver_req.proofs.ShortestMeaning.{by_form, by_test}

@@ -8,7 +8,7 @@ use Rattle.semver_base.specs.Shortest.{shortest_tree}
 use Rattle.semver_base.specs.declared.partial.Partial.{Partial}
 use Rattle.semver_base.specs.declared.partial.XRange.TheVariants.{Wildcard}
 use Rattle.semver_base.specs.declared.range.VersionRange.{VersionRange}
-use Rattle.semver_base.proofs.Readings.{in_place}
+use Rattle.semver_base.specs.ValueLaws.{in_place}
 use Rattle.semver_req.specs.Outcome.{IsSpecifierRange, Ranges, whole}
 use Rattle.semver_req.specs.Parsers.{IsCutReading}
 use Rattle.semver_req.specs.Pieces.{IsCutting, npm, normal}

@@ -9,7 +9,7 @@ use Rattle.std.proofs.lemmas.Bool.Decides.{nat_tests}
 use Rattle.std.proofs.lemmas.List.Elements.{All-from_get_or}
 use Rattle.std.proofs.lemmas.List.Sums.{list_all-from_AllPass}
 use Rattle.std.proofs.lemmas.Str.{encodes-chars, inside_one}
-use Rattle.semver_base.proofs.Bytes.{list_all-append}
+use Rattle.semver_base.specs.ByteLaws.{list_all-append}
 use Rattle.semver_req.specs.Pieces.{HasNoBar}
 use Rattle.semver_req.specs.Tag.{is_tag_character, is_valid_tag}
 use Rattle.semver_req.proofs.PrimitiveKindsNoTag.{are_tag_characters}

@@ -6,7 +6,7 @@ use Rattle.std.proofs.lemmas.Bool.{cases_Bool, not-false}
 use Rattle.std.proofs.lemmas.Bool.Decides.{nat_tests}
 use Rattle.std.proofs.lemmas.Str.{IsCharBoundary-before_ascii, IsUtf8-drop, IsUtf8-past_char, IsUtf8-take, chars-append, chars_from_encodes, chars_past_char, encode_ascii, encodes-append, encodes-chars, encodes_same}
 use Rattle.semver_base.specs.Lexical.{IsWhitespace}
-use Rattle.semver_base.proofs.Solid.{EndsSolid, StartsSolid, is_solid_byte}
+use Rattle.semver_base.specs.SolidLaws.{EndsSolid, StartsSolid, is_solid_byte}
 use Rattle.semver_req.proofs.TagPieces.{IsLeft, piece_left, skipped_twice}
 use Rattle.semver_req.proofs.WordEndings.{get_or-append-here}
 

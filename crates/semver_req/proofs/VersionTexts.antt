@@ -8,9 +8,9 @@ use Rattle.semver_base.specs.Lexical.{IsByte, IsWhitespace}
 use Rattle.semver_base.specs.VersionGrammar.{AllNumbersFit, IsLead, IsTriple, IsVersion, is_version, version_of}
 use Rattle.semver_base.specs.declared.lexical.values.Qualifier.{Qualifier}
 use Rattle.semver_base.specs.declared.version.Version.{Version}
-use Rattle.semver_base.proofs.Bytes.{MadeOf, joined_made, joined_some_text, prefixed_made}
-use Rattle.semver_base.proofs.Numbers.{loose_some}
-use Rattle.semver_base.proofs.Solid.{EndsSolid, StartsSolid, ends_after, ends_solid, is_solid_byte, number_made, qualifier_made, some_text, starts_before, starts_solid}
+use Rattle.semver_base.specs.ByteLaws.{MadeOf, joined_made, joined_some_text, prefixed_made}
+use Rattle.semver_base.specs.SolidLaws.{EndsSolid, StartsSolid, ends_after, ends_solid, is_solid_byte, number_made, qualifier_made, some_text, starts_before, starts_solid}
+use Rattle.semver_base.specs.TokenLaws.{loose_some}
 use Rattle.semver_req.specs.Viable.{IsTextOf, IsVersionText, IsViablePrefix}
 use Rattle.semver_req.specs.declared.error_places.Grammar.{Grammar}
 use Rattle.semver_req.specs.declared.error_places.Grammar.TheVariants.{Ranges, Versions}

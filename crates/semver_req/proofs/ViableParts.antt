@@ -19,7 +19,7 @@ use Rattle.semver_base.specs.declared.partial.Partial.{Partial}
 use Rattle.semver_base.specs.declared.partial.XRange.{XRange}
 use Rattle.semver_base.specs.declared.partial.XRange.TheVariants.{Wildcard, Val}
 use Rattle.semver_base.specs.declared.range.VersionRange.{VersionRange}
-use Rattle.semver_base.proofs.Fronts.{fronts, same, shorter, longer, same_fronts}
+use Rattle.semver_base.specs.GrammarLaws.{fronts, same, shorter, longer, same_fronts}
 use Rattle.semver_req.specs.Comparators.{fits, numbers}
 use Rattle.semver_req.specs.Outcome.{IsBad, IsGood, IsSpecifierRange}
 use Rattle.semver_req.specs.Partials.{component_fits, partial_fits, sized_partial}

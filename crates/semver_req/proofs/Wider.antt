@@ -8,7 +8,7 @@ use Rattle.semver_base.specs.declared.lexical.values.Qualifier.{Qualifier}
 use Rattle.semver_base.specs.declared.partial.Partial.{Partial}
 use Rattle.semver_base.specs.declared.partial.XRange.{XRange}
 use Rattle.semver_base.specs.declared.partial.XRange.TheVariants.{Wildcard, Val}
-use Rattle.semver_base.proofs.WrittenVersions.{after}
+use Rattle.semver_base.specs.WrittenLaws.{after}
 use Rattle.semver_req.specs.Comparators.{IsComparator, IsLed, no_more}
 use Rattle.semver_req.specs.Partials.{IsComponent, IsPartial, IsBarePartial, IsSecond, IsThird}
 use Rattle.semver_req.specs.Pieces.{IsNpmSeparator, NormalPiecesAreNpms}

@@ -1,7 +1,7 @@
 -- Neither a canonical form nor a tag contains what separates a requirement from the rest of the text of a package.
 use Rattle.std.proofs.Common.{◌≡◌, ◌==◌, ℕ, true, refl, arith, not}
 use Rattle.std.proofs.lemmas.Bool.Decides.{nat_tests}
-use Rattle.semver_base.proofs.Solid.{is_solid_byte}
+use Rattle.semver_base.specs.SolidLaws.{is_solid_byte}
 use Rattle.semver_req.specs.Rereading.{NormalTextsHoldNoSeparator, TagsHoldNoSeparator}
 use Rattle.semver_req.proofs.ReadSets.{read_writable}
 use Rattle.semver_req.proofs.TagCharacters.{at_no_tag, slash_no_tag}

@@ -12,7 +12,7 @@ use Rattle.semver_base.specs.Grammar.{last_item}
 use Rattle.semver_base.specs.Lexical.{IsWhitespace, IsIdentifiers, IsLooseNumber, IsLoosePre, IsNumber, IsPre, IsQualifier, IsSomeWhitespace, IsStrictNumber, is_identifier_byte, qualifier_of}
 use Rattle.semver_base.specs.declared.lexical.values.Strictness.{Strictness}
 use Rattle.semver_base.specs.declared.lexical.values.Strictness.TheVariants.{Loose, Strict}
-use Rattle.semver_base.proofs.Fronts.{fronts, same, shorter, longer}
+use Rattle.semver_base.specs.GrammarLaws.{fronts, same, shorter, longer}
 use Rattle.semver_req.proofs.Endings.{Any, Each, Ends, HasText, IsEnded, Starts, any_both, byte_ended, ended_as, ends_here, followed_ended, listed_ended, mapped_ended, optional_ended, prefixed_ended, run_ended, run_front}
 
 -- ---- whitespace

@@ -22,10 +22,10 @@ use Rattle.semver_base.specs.declared.range.VersionBoundKind.{VersionBoundKind}
 use Rattle.semver_base.specs.declared.range.VersionBoundKind.TheVariants as kind
 use Rattle.semver_base.specs.declared.range.VersionRange.{VersionRange}
 use Rattle.semver_base.specs.declared.version.Version.{Version}
-use Rattle.semver_base.proofs.Bytes.{MadeOf, joined_made, list_all-append, mapped_made, prefixed_made, optional_made}
-use Rattle.semver_base.proofs.ShortVersions.{short_is}
-use Rattle.semver_base.proofs.Solid.{is_solid_byte, number_made, qualifier_made, some_text}
-use Rattle.semver_base.proofs.WrittenVersions.{after, follow, no_digit_written, number_written, qualifier_written}
+use Rattle.semver_base.specs.ByteLaws.{MadeOf, joined_made, list_all-append, mapped_made, prefixed_made, optional_made}
+use Rattle.semver_base.specs.SolidLaws.{is_solid_byte, number_made, qualifier_made, some_text}
+use Rattle.semver_base.specs.ShortLaws.{short_is}
+use Rattle.semver_base.specs.WrittenLaws.{after, follow, no_digit_written, number_written, qualifier_written}
 use Rattle.semver_req.specs.Comparators.{IsComparator, IsLed, fits, no_more, numbers}
 use Rattle.semver_req.specs.Partials.{IsComponent, IsPartial, IsBarePartial, IsThird, is_wildcard, strictness_of}
 use Rattle.semver_req.specs.declared.common.values.Flavour.{Flavour}

@@ -21,10 +21,10 @@ use Rattle.semver_base.specs.declared.range.VersionBoundKind.{VersionBoundKind}
 use Rattle.semver_base.specs.declared.range.VersionBoundKind.TheVariants as kind
 use Rattle.semver_base.specs.declared.range.VersionRange.{VersionRange}
 use Rattle.semver_base.specs.declared.version.Version.{Version}
-use Rattle.semver_base.proofs.Whitespace.{whitespace_made, is_whitespace_byte}
-use Rattle.semver_base.proofs.Bytes.{list_all-append, list_all-wider}
-use Rattle.semver_base.proofs.Fronts.{fronts, same, shorter, longer}
-use Rattle.semver_base.proofs.Solid.{EndsSolid, StartsSolid, ends_after, ends_solid, is_solid_byte, solid_ascii, solid_no_whitespace, starts_before, starts_solid, trim_same}
+use Rattle.semver_base.specs.WhitespaceLaws.{whitespace_made, is_whitespace_byte}
+use Rattle.semver_base.specs.ByteLaws.{list_all-append, list_all-wider}
+use Rattle.semver_base.specs.GrammarLaws.{fronts, same, shorter, longer}
+use Rattle.semver_base.specs.SolidLaws.{EndsSolid, StartsSolid, ends_after, ends_solid, is_solid_byte, solid_ascii, solid_no_whitespace, starts_before, starts_solid, trim_same}
 use Rattle.semver_req.specs.Comparators.{fits}
 use Rattle.semver_req.specs.Outcome.{AreGoodOnes, none_left, good, IsCutOutcome, IsOutcome, one_good, npm_many, normal_many, Ranges}
 use Rattle.semver_req.specs.Pieces.{IsCutting, npm, normal, AreMorePieces, last_piece, cut_piece, one_piece, first_cut, HasNoBar, IsCutAt, IsFilled, IsPiece, IsTrimmed}

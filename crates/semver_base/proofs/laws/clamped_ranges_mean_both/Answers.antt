@@ -1,5 +1,4 @@
-use Rattle.semver_base.proofs.ClampLemmas.{clamped_bounds, clamped_crossed, clamped_empty}
-use Rattle.semver_base.proofs.ClampMeaning.{clamped_admits, clamped_matches, clamped_means}
+use Rattle.semver_base.specs.ClampLaws.{clamped_bounds, clamped_crossed, clamped_empty, clamped_admits, clamped_matches, clamped_means}
 use Rattle.semver_base.proofs.laws.clamped_ranges_mean_both.Goals as goal
 
 pub returns : goal.returns

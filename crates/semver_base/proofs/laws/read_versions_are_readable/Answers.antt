@@ -2,7 +2,7 @@ use Rattle.std.proofs.Common.{ℕ, List, Ok}
 use Rattle.semver_base.specs.LowestVersion.{IsReadable}
 use Rattle.semver_base.specs.VersionGrammar.{IsVersionOutcome, is_version}
 use Rattle.semver_base.specs.declared.version.Version.{Version}
-use Rattle.semver_base.proofs.ReadVersions.{read_writable}
+use Rattle.semver_base.specs.WrittenLaws.{read_writable}
 use Rattle.semver_base.proofs.laws.read_versions_are_readable.Goals as goal
 
 readable : (text : List ℕ) (v : Version) → IsVersionOutcome text (Ok v) → IsReadable v

@@ -1,4 +1,4 @@
-use Rattle.semver_base.proofs.Whitespace.{whitespace_longest}
+use Rattle.semver_base.specs.WhitespaceLaws.{whitespace_longest}
 use Rattle.semver_base.proofs.lexical.after_whitespace.Goals as goal
 
 pub returns : goal.returns

@@ -1,6 +1,6 @@
 use Rattle.std.proofs.Common.{rules}
-use Rattle.semver_base.proofs.Lists.{listed_none, so_far_more, so_far_one}
-use Rattle.semver_base.proofs.Identifiers.{byte_longest, byte_none, identifiers_listing}
+use Rattle.semver_base.specs.ListLaws.{listed_none, so_far_more, so_far_one}
+use Rattle.semver_base.specs.TokenLaws.{byte_longest, byte_none, identifiers_listing}
 use Rattle.semver_base.proofs.Numbers.{run_seen, run_unseen}
 use Rattle.semver_base.proofs.lexical.identifiers.Goals as goal
 

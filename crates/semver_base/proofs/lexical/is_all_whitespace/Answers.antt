@@ -1,4 +1,4 @@
-use Rattle.semver_base.proofs.Whitespace.{whitespace_whole}
+use Rattle.semver_base.specs.WhitespaceLaws.{whitespace_whole}
 use Rattle.semver_base.proofs.lexical.is_all_whitespace.Goals as goal
 
 pub returns : goal.returns

@@ -1,7 +1,7 @@
 use Rattle.std.proofs.Common.{◌∙◌, ap, sym, rules}
 use Rattle.std.specs.Result.{result_ok}
 use Rattle.semver_base.specs.Lexical.{measured_of}
-use Rattle.semver_base.proofs.Fronts.{mapped, mapped_none}
+use Rattle.semver_base.specs.GrammarLaws.{mapped, mapped_none}
 use Rattle.semver_base.proofs.Numbers.{parsed, run_seen, run_unseen}
 use Rattle.semver_base.proofs.lexical.loose_number.Goals as goal
 

@@ -2,7 +2,7 @@ use Rattle.std.proofs.Common.{length}
 use denote.Text.{Utf8}
 use denote.Shadow.{shadow}
 use Rattle.semver_base.specs.Lexical.{IsByte, IsIdentifier}
-use Rattle.semver_base.proofs.Lists.{SoFar}
+use Rattle.semver_base.specs.ListLaws.{SoFar}
 use Rattle.semver_base.proofs.lexical.many_identifiers.Given as goal
 
 abbrev pub invariant-loop-next : goal.invariant-loop-next

@@ -1,5 +1,6 @@
 use Rattle.std.proofs.Common.{refl}
-use Rattle.semver_base.proofs.Numbers.{strict_other, strict_zero}
+use Rattle.semver_base.proofs.Numbers.{strict_other}
+use Rattle.semver_base.specs.TokenLaws.{strict_zero}
 use Rattle.semver_base.proofs.lexical.number.Goals as goal
 
 pub returns-in-Some : goal.returns-in-Some

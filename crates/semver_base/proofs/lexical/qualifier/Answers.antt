@@ -1,5 +1,6 @@
-use Rattle.semver_base.proofs.Bytes.{prefixed_some_text}
-use Rattle.semver_base.proofs.Qualifiers.{optional_read, pre_some, qualifier_read}
+use Rattle.semver_base.specs.ByteLaws.{prefixed_some_text}
+use Rattle.semver_base.proofs.Qualifiers.{optional_read}
+use Rattle.semver_base.specs.TokenLaws.{pre_some, qualifier_read}
 use Rattle.semver_base.proofs.lexical.qualifier.Goals as goal
 
 pub returns : goal.returns

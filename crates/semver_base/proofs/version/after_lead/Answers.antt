@@ -1,6 +1,6 @@
 use Rattle.std.proofs.Common.{Some, rules, refl}
-use Rattle.semver_base.proofs.Bytes.{prefixed_some_text}
-use Rattle.semver_base.proofs.Fronts.{prefixed_some, optional_some}
+use Rattle.semver_base.specs.ByteLaws.{prefixed_some_text}
+use Rattle.semver_base.specs.GrammarLaws.{prefixed_some, optional_some}
 use Rattle.semver_base.proofs.VersionReading.{lead_read, optional_equals}
 use Rattle.semver_base.proofs.version.after_lead.Goals as goal
 

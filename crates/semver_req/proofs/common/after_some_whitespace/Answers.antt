@@ -1,5 +1,5 @@
 use Rattle.std.proofs.Common.{ap, arith, length, length-append}
-use Rattle.semver_base.proofs.Whitespace.{no_whitespace, some_whitespace}
+use Rattle.semver_base.specs.WhitespaceLaws.{no_whitespace, some_whitespace}
 use Rattle.semver_req.proofs.common.after_some_whitespace.Goals as goal
 
 pub returns-then-rest-text : goal.returns-then-rest-text

@@ -1,5 +1,5 @@
 use Rattle.std.proofs.Common.{None, Some}
-use Rattle.semver_base.proofs.Fronts.{joined_none_first, mapped_none}
+use Rattle.semver_base.specs.GrammarLaws.{joined_none_first, mapped_none}
 use Rattle.semver_req.proofs.Hyphens.{hyphened_read, no_hyphen_operator, no_whitespace_after, no_whitespace_before, pair_none, pair_read, upper_read}
 use Rattle.semver_req.proofs.common.hyphen_front.Goals as goal
 

@@ -1,5 +1,5 @@
 use Rattle.std.proofs.Common.{rules, IsUtf8}
-use Rattle.semver_base.proofs.Fronts.{joined_none_first}
+use Rattle.semver_base.specs.GrammarLaws.{joined_none_first}
 use Rattle.semver_req.proofs.Places.{seen_at, seen_reaches}
 use Rattle.semver_req.proofs.PrimitiveKinds.{primitive_none, primitive_read}
 use Rattle.semver_req.proofs.common.primitive.Goals as goal

@@ -2,7 +2,7 @@ use Rattle.std.proofs.Common.{rules}
 use Rattle.std.proofs.lemmas.Iterator.{YieldsList-from_chars}
 use Rattle.std.proofs.lemmas.Iterator.Search.{all_from_yields_List}
 use borrow.Author.Tests.{tests}
-use Rattle.semver_base.proofs.Whitespace.{whitespace_test}
+use Rattle.semver_base.specs.WhitespaceLaws.{whitespace_test}
 use Rattle.semver_req.specs.Tag.{is_tag_character}
 use Rattle.semver_req.proofs.range_set_or_tag.is_valid_npm_tag.Goals as goal
 

@@ -1,8 +1,7 @@
 use Rattle.std.proofs.Common.{◌≡◌, rules, subst, sym, ◌⊎◌}
 use Rattle.semver_base.specs.Clamp.{clamped, AdmitsBoth, HaveCrossed, HoldsBoth, HoldsNothing, MatchesBoth, MeansBoth}
 use Rattle.semver_base.specs.declared.range.VersionRange.{VersionRange}
-use Rattle.semver_base.proofs.ClampLemmas.{clamped_bounds, clamped_crossed, clamped_empty}
-use Rattle.semver_base.proofs.ClampMeaning.{clamped_admits, clamped_matches, clamped_means}
+use Rattle.semver_base.specs.ClampLaws.{clamped_bounds, clamped_crossed, clamped_empty, clamped_admits, clamped_matches, clamped_means}
 use Rattle.semver_base.proofs.range.VersionRange.clamp.Goals as goal
 
 pub returns-clause-bounds : goal.returns-clause-bounds

@@ -5,10 +5,10 @@ use Rattle.std.proofs.lemmas.List.{nil_from_length}
 use Rattle.semver_base.proofs.ShortTexts.{short_version}
 use Rattle.semver_base.specs.declared.failure.ParserError.{ParserError}
 use Rattle.semver_base.specs.declared.version.Versions.{Versions}
-use Rattle.semver_base.proofs.ReadVersions.{read_back}
 use Rattle.semver_base.proofs.VersionReading.{read_answer, read_outcome, rejected_answer}
 use Rattle.semver_base.specs.VersionGrammar.{IsVersionRejection}
 use Rattle.semver_base.specs.VersionParserSteps.{IsReadVersion}
+use Rattle.semver_base.proofs.WrittenVersions.{read_back}
 use Rattle.semver_base.proofs.version.Version.parse_standard.Goals as goal
 use Rattle.semver_base.proofs.version.Version.parse_standard.Goals.{in-Some-2, in-None}
 

@@ -3,7 +3,7 @@ use Rattle.std.specs.List.{list_any}
 use denote.Text.{Utf8}
 use denote.Shadow.{shadow}
 use Rattle.semver_base.specs.Comparators.{Comparator}
-use Rattle.semver_base.proofs.Lists.{SoFar}
+use Rattle.semver_base.specs.ListLaws.{SoFar}
 use Rattle.semver_req.specs.Causes.{overflows}
 use Rattle.semver_req.specs.Comparators.{IsComparator}
 use Rattle.semver_req.specs.Pieces.{IsSeparator}

@@ -1,5 +1,5 @@
 use Rattle.std.proofs.Common.{[], ◌∷◌, ◌++◌, rules}
-use Rattle.semver_base.proofs.Lists.{so_far_more, so_far_one}
+use Rattle.semver_base.specs.ListLaws.{so_far_more, so_far_one}
 use Rattle.semver_req.specs.Written.{comparator_of}
 use Rattle.semver_req.proofs.PieceReadings.{list_shorter, listing}
 use Rattle.semver_req.proofs.range_set_or_tag.pieces.RangeOrInvalid.comparators.Goals as goal

@@ -3,7 +3,7 @@ use denote.Text.{Utf8}
 use denote.Shadow.{shadow}
 use Rattle.semver_base.specs.Comparators.{Comparator}
 use Rattle.semver_base.specs.declared.partial.Partial.{Partial}
-use Rattle.semver_base.proofs.Lists.{SoFar}
+use Rattle.semver_base.specs.ListLaws.{SoFar}
 use Rattle.semver_req.specs.Comparators.{IsComparator}
 use Rattle.semver_req.specs.Partials.{sized_partial}
 use Rattle.semver_req.specs.PieceReading.{joined}

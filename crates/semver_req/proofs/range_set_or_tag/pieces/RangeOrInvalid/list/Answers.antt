@@ -1,5 +1,5 @@
 use Rattle.std.proofs.Common.{sym}
-use Rattle.semver_base.proofs.Lists.{listed_none}
+use Rattle.semver_base.specs.ListLaws.{listed_none}
 use Rattle.semver_req.proofs.PiecesRead.{list_read, more_follows, none_whole, only_read}
 use Rattle.semver_req.proofs.range_set_or_tag.pieces.RangeOrInvalid.list.Goals as goal
 

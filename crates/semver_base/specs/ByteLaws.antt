@@ -3,7 +3,7 @@ use Rattle.std.proofs.Common.{◌≡◌, ℕ, Bool, true, List, [], ◌∷◌, �
 use Rattle.std.specs.List.{list_all}
 use Rattle.std.proofs.lemmas.Bool.{and_from, and_parts}
 use Rattle.semver_base.specs.Grammar.{Either, this, that, HasNone, Joined, Listed, last_item, closed_item, more_items, Mapped, Prefixed, Optional, Run}
-use Rattle.semver_base.proofs.Fronts.{Apart, Begins, GoesOn, NoClash, NonEmpty, fronts, same, shorter, longer}
+use Rattle.semver_base.specs.GrammarLaws.{Apart, Begins, GoesOn, NoClash, NonEmpty, fronts, same, shorter, longer}
 
 -- p holds of each byte with which a text of A begins, q of each with which a text of A continues to a longer one
 pub record BeginsBy {V : Type 0} (A : List ℕ → V → Type 0) (p : ℕ → Bool) : Type 0 where

@@ -1,26 +1,30 @@
 -- Leading whitespace, and texts of only whitespace.
-use Rattle.std.proofs.Common.{◌≡◌, ◌≤◌, ◌<◌, ℕ, Bool, true, List, [], ◌∷◌, ◌++◌, length, take, get_or, refl, sym, ap, ◌∙◌, arith, inl, inr, append_assoc, append-nil, length-append, ◌↔◌, ◌==◌, ◌||◌, nat_le, IsTrue, IsUtf8, encode_utf8}
+use Rattle.std.proofs.Common.{◌≡◌, ◌≤◌, ◌<◌, ℕ, Bool, true, List, [], ◌∷◌, ◌++◌, length, take, get_or, refl, sym, ap, ◌∙◌, inl, inr, append_assoc, append-nil, ◌↔◌, ◌==◌, ◌||◌, nat_le, IsTrue, IsUtf8, encode_utf8}
 use Rattle.std.specs.Char.{is_not_whitespace, is_whitespace}
 use Rattle.std.specs.List.{list_all}
 use Rattle.std.specs.Str.{EmptyOrStartsWithPassing, IsTrimStart, NonePass, NoCharPasses, chars, encode_utf8_all}
-use Rattle.std.proofs.lemmas.Bool.Decides.{nat_tests, same_from_decides}
+use Rattle.std.proofs.lemmas.Bool.Decides.{same_from_decides}
 use Rattle.std.proofs.lemmas.Str.{chars_from_encodes, encode_same, encodes-chars, inside_one, len_utf8_bounds, length-encode}
 use Rattle.std.proofs.lemmas.List.Sums.{list_all-from_AllPass}
 use Rattle.std.proofs.lemmas.List.Elements.{All-from_get_or}
 use Rattle.std.proofs.lemmas.List.{nil_from_length, take-append-drop}
-use Rattle.std.proofs.lemmas.Bool.{and_parts, both_ways, cases_lt, le-leb, not-false, or_left, or_right}
+use Rattle.std.proofs.lemmas.Bool.{and_parts, both_ways, cases_lt, eqb-true, le-leb, not-false, or_left, or_right}
+use Prim.Native.Nat.{zero-le}
+use native.Mathlib.Nat.{le_trans, not-suc-le-zero}
 use Rattle.semver_base.specs.Grammar.{HasNone, IsLongest}
 use Rattle.semver_base.specs.Lexical.{IsWhitespace, IsSomeWhitespace}
-use Rattle.semver_base.proofs.Fronts.{narrowed}
-use Rattle.semver_base.proofs.Bytes.{MadeOf, list_all-append}
+use Rattle.semver_base.specs.LengthLaws.{front_le, join_le, some_front, no_front, no_rest}
+use Rattle.semver_base.specs.GrammarLaws.{narrowed}
+use Rattle.semver_base.specs.ByteLaws.{MadeOf, list_all-append}
 
 -- leading whitespace is no longer than that after which no more whitespace follows
 no_longer : (cs ds rest b after : List ℕ) → NonePass is_not_whitespace cs → NonePass is_not_whitespace ds → EmptyOrStartsWithPassing is_not_whitespace rest after
     → encode_utf8_all cs ++ b ≡ encode_utf8_all ds ++ rest → length (encode_utf8_all cs) ≤ length (encode_utf8_all ds)
-no_longer [] ds rest b after pa pf stop e = omega arith
+no_longer [] ds rest b after pa pf stop e = zero-le
 no_longer (c ∷ cs) [] rest b after pa pf stop e =
     let split : encode_utf8 c ++ (encode_utf8_all cs ++ b) ≡ rest = sym (append_assoc (encode_utf8 c) (encode_utf8_all cs) b) ∙ e in
-    let size : 0 < length rest = omega (arith, ap length split, length-append (encode_utf8 c) (encode_utf8_all cs ++ b), length-encode c, len_utf8_bounds c) in
+    let some : 0 < length (encode_utf8 c) = rw (length-encode c) (len_utf8_bounds c).0 in
+    let size : 0 < length rest = rw (← split) (le_trans some (front_le (encode_utf8 c) (encode_utf8_all cs ++ b))) in
     let next = stop size in
     let same_char : c ≡ next.0 = (encode_same c next.0 (encode_utf8_all cs ++ b) after (split ∙ next.2)).0 in
     absurd (both_ways (is_not_whitespace c) pa.0 (rw same_char next.1))
@@ -28,7 +32,7 @@ no_longer (c ∷ cs) (d ∷ ds) rest b after pa pf stop e =
     let split : encode_utf8 c ++ (encode_utf8_all cs ++ b) ≡ encode_utf8 d ++ (encode_utf8_all ds ++ rest) = sym (append_assoc (encode_utf8 c) (encode_utf8_all cs) b) ∙ (e ∙ append_assoc (encode_utf8 d) (encode_utf8_all ds) rest) in
     let both = encode_same c d (encode_utf8_all cs ++ b) (encode_utf8_all ds ++ rest) split in
     let tail = no_longer cs ds rest b after pa.1 pf.1 stop both.1 in
-    omega (arith, tail, ap (λ x. length (encode_utf8 x)) both.0, length-append (encode_utf8 c) (encode_utf8_all cs), length-append (encode_utf8 d) (encode_utf8_all ds))
+    rw both.0 (join_le (encode_utf8 d) (encode_utf8_all cs) (encode_utf8_all ds) tail)
 
 pub whitespace_longest : (text rest : List ℕ) → IsTrimStart text rest → IsLongest IsWhitespace text tt rest
 whitespace_longest text rest h = record {
@@ -43,7 +47,7 @@ whitespace_longest text rest h = record {
     go a b e k =
         let split : a ++ b ≡ take h.0 text ++ rest = sym e ∙ (sym (take-append-drop h.0 text) ∙ ap (λ t. take h.0 text ++ t) (sym h.1)) in
         let chars_split : encode_utf8_all k.0 ++ b ≡ encode_utf8_all h.2.0 ++ rest = ap (λ t. t ++ b) k.1 ∙ (split ∙ ap (λ t. t ++ rest) (sym h.2.1)) in
-        omega (arith, no_longer k.0 h.2.0 rest b h.3.0 k.2 h.2.2 h.3.1 chars_split, ap length k.1, ap length h.2.1)
+        rw (k.1, h.2.1) at (no_longer k.0 h.2.0 rest b h.3.0 k.2 h.2.2 h.3.1 chars_split)
 
 -- ---- the bytes of whitespace
 
@@ -70,10 +74,12 @@ whitespace_made = record { made = λ text v h. rw (← h.1) (all_whitespace h.0 
 -- ---- one or more whitespace characters
 
 pub some_whitespace : (text rest : List ℕ) → IsLongest IsWhitespace text tt rest → length rest < length text → IsLongest IsSomeWhitespace text tt rest
-some_whitespace text rest p less = narrowed IsSomeWhitespace (λ a w h. h.1) p (omega (arith, less, ap length p.text_is, length-append p.front rest), p.stands)
+some_whitespace text rest p less = narrowed IsSomeWhitespace (λ a w h. h.1) p (some_front p.front rest (rw p.text_is at less), p.stands)
 
 pub no_whitespace : (text rest : List ℕ) → IsLongest IsWhitespace text tt rest → length text ≤ length rest → HasNone IsSomeWhitespace text
-no_whitespace text rest p same_size = record { none = λ a b w e h. omega (arith, h.0, (p.longest a b tt e h.1).0, ap length p.text_is, length-append p.front rest, same_size) }
+no_whitespace text rest p same_size =
+    let nil : p.front ≡ [] = no_front p.front rest (rw p.text_is at same_size) in
+    record { none = λ a b w e h. not-suc-le-zero (le_trans h.0 (rw nil at (p.longest a b tt e h.1).0)) }
 
 -- ---- texts of only whitespace
 
@@ -83,14 +89,15 @@ whitespace_whole text rest b e p = (forward, backward)
   where
     forward : IsTrue b → IsWhitespace text tt
     forward h =
-        let nil : rest ≡ [] = nil_from_length rest (grind (arith, nat_tests)) in
+        let nil : rest ≡ [] = nil_from_length rest (eqb-true (length rest) 0 (sym e ∙ h)) in
         let whole : text ≡ p.front = p.text_is ∙ (ap (λ t. p.front ++ t) nil ∙ append-nil p.front) in
         rw whole p.stands
 
     backward : IsWhitespace text tt → IsTrue b
     backward h =
-        let size : length rest ≡ 0 = omega (arith, (p.longest text [] tt (sym (append-nil text)) h).0, ap length p.text_is, length-append p.front rest) in
-        rw (e, size) refl
+        let best : length text ≤ length p.front = (p.longest text [] tt (sym (append-nil text)) h).0 in
+        let nil : rest ≡ [] = no_rest p.front rest (rw p.text_is at best) in
+        rw (e, nil) refl
 
 all_white : (cs : List ℕ) → NonePass is_not_whitespace cs → list_all is_whitespace cs ≡ true
 all_white [] h = refl

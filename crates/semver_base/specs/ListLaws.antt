@@ -1,10 +1,12 @@
 -- Runs of bytes, and lists with separators.
-use Rattle.std.proofs.Common.{◌≡◌, ◌≤◌, ◌<◌, ℕ, Bool, true, List, [], ◌∷◌, ◌++◌, length, take, drop, Option, Some, None, refl, sym, ap, ◌∙◌, arith, inl, inr, append_assoc, length-append, append-nil, one-add}
+use Rattle.std.proofs.Common.{◌≡◌, ◌≤◌, ◌<◌, ℕ, Bool, true, List, [], ◌∷◌, ◌++◌, length, take, drop, Option, Some, None, refl, sym, ap, ◌∙◌, inl, inr, append_assoc, append-nil, one-add}
 use Rattle.std.specs.List.{list_all, prefix_len}
 use Rattle.std.proofs.lemmas.Bool.{and_parts, both_ways, cases_Bool}
+use native.Mathlib.Nat.{le_of_eq, not-suc-le-zero}
 use Rattle.semver_base.specs.Grammar.{IsLongest, HasNone, Followed, Listed, last_item, closed_item, more_items, Mapped, Optional, Run, Stops}
-use Rattle.semver_base.proofs.Fronts.{Apart, NonEmpty, fronts, same, shorter, longer, followed, joined_none_first, mapped_none, narrowed_none, renamed, optional_none, optional_some}
-use Rattle.semver_base.proofs.Bytes.{BeginsBy, GoesBy, Disjoint, apart_by, optional_begins, joined_begins, joined_some_text, list_all_there}
+use Rattle.semver_base.specs.LengthLaws.{front_le, goes_on}
+use Rattle.semver_base.specs.GrammarLaws.{Apart, NonEmpty, fronts, same, shorter, longer, followed, joined_none_first, mapped_none, narrowed_none, renamed, optional_none, optional_some}
+use Rattle.semver_base.specs.ByteLaws.{BeginsBy, GoesBy, Disjoint, apart_by, optional_begins, joined_begins, joined_some_text, list_all_there}
 
 -- ---- runs
 
@@ -17,16 +19,16 @@ run_longest p f rest some pass stops = record { front = f; text_is = refl; stand
   where
     go : (a b w : List ℕ) → f ++ rest ≡ a ++ b → Run p a w → (length a ≤ length f) × (length a ≡ length f → w ≡ f)
     go a b w e h = elim (fronts f a rest b e) [
-      | same one two ↦ (omega (arith, ap length one), λ _. h.is ∙ sym one)
+      | same one two ↦ (le_of_eq (ap length (sym one)), λ _. h.is ∙ sym one)
       | shorter x m one two ↦ stops_here p x m rest b stops two (list_all_there p f m x (rw one at h.pass))
-      | longer x m one two ↦ let le = ap length one ∙ length-append a (x ∷ m) in (omega (arith, le), λ s. absurd (omega (arith, le)))
+      | longer x m one two ↦ (rw one (front_le a (x ∷ m)), λ s. absurd (goes_on a x m one (le_of_eq (sym s))))
     ]
 
 pub run_none : (p : ℕ → Bool) (text : List ℕ) → Stops p text → HasNone (Run p) text
 run_none p text stops = record { none = λ a b w e h. go a b w e h }
   where
     go : (a b w : List ℕ) → text ≡ a ++ b → Run p a w → ⊥
-    go [] b w e h = absurd (omega (arith, h.some))
+    go [] b w e h = absurd (not-suc-le-zero h.some)
     go (x ∷ a) b w e h = stops_here p x a text b stops e (and_parts (p x) (list_all p a) h.pass).0
 
 pub run_begins : (p : ℕ → Bool) → BeginsBy (Run p) p
@@ -36,7 +38,7 @@ pub run_goes : (p : ℕ → Bool) → GoesBy (Run p) p
 run_goes p = record { goes = λ x b. list_all_there p b.front b.more x b.long.pass }
 
 pub run_some : (p : ℕ → Bool) → NonEmpty (Run p)
-run_some p = record { some = λ v h. let some : 0 < 0 = h.some in omega arith }
+run_some p = record { some = λ v h. not-suc-le-zero h.some }
 
 -- the bytes that pass, and what follows them
 pub taken_pass : (p : ℕ → Bool) (xs : List ℕ) → list_all p (take (prefix_len p xs) xs) ≡ true

@@ -1,13 +1,64 @@
--- What lies between two pre-releases of the same three numbers.
-use Rattle.std.proofs.Common.{◌≡◌, ◌==◌, ◌≤◌, ℕ, List, length, Bool, true, false, not, refl, sym, ◌∙◌, arith, is_le, nat_cmp, Equal}
+-- Comparisons in a row, tests that follow from one another, and what lies between two pre-releases of the same three numbers.
+use Rattle.std.proofs.Common.{◌≡◌, ◌&&◌, Bool, true, false, refl, Ordering, Less, Equal, Greater, ◌==◌, ◌≤◌, ℕ, List, length, not, sym, ◌∙◌, is_le, nat_cmp}
+use Rattle.std.specs.Ordering.{is_gt, is_le, is_lt, ordering_then}
 use Rattle.std.proofs.lemmas.Cmp.{nat_cmp_total, tied_itself}
 use Rattle.std.proofs.lemmas.Bool.{and_parts, eq-eqb, eqb-true}
 use Rattle.std.proofs.lemmas.Map.Keys.{le_from_is_le}
+use native.Mathlib.Nat.{le_antisymm, not-suc-le-zero}
 use Rattle.semver_base.specs.Meaning.{bound_at, has_pre_of, is_release}
 use Rattle.semver_base.specs.Precedence.{precedence_cmp, release_rank}
 use Rattle.semver_base.specs.declared.version.Version.{Version}
 use Rattle.semver_base.specs.declared.range.VersionBoundKind.TheVariants as kind
-use Rattle.semver_base.proofs.Orders.{le_then_first, le_then_second}
+
+-- ---- tests
+
+-- a test that another implies adds nothing to it
+pub implied_first : (a b : Bool) → (b ≡ true → a ≡ true) → b ≡ (a && b)
+implied_first a true h = rw (h refl) refl
+implied_first true false h = refl
+implied_first false false h = refl
+
+pub implied_second : (a b : Bool) → (a ≡ true → b ≡ true) → a ≡ (a && b)
+implied_second true b h = rw (h refl) refl
+implied_second false b h = refl
+
+-- two tests of which one excludes the other
+pub never_both : (a b : Bool) → (a ≡ true → b ≡ false) → (a && b) ≡ false
+never_both true b h = h refl
+never_both false b h = refl
+
+-- what has to be compared only if the first test holds
+pub same_where : (a b c d : Bool) → a ≡ c → (c ≡ true → b ≡ d) → (a && b) ≡ (c && d)
+same_where true b true d e h = h refl
+same_where true b false d e h = cc e
+same_where false b true d e h = cc e
+same_where false b false d e h = refl
+
+-- ---- a total order
+
+pub greater_from : (r : Ordering) → is_gt r ≡ true → r ≡ Greater
+greater_from Less h = cc h
+greater_from Equal h = cc h
+greater_from Greater h = refl
+
+pub less_from : (r : Ordering) → is_lt r ≡ true → r ≡ Less
+less_from Less h = refl
+less_from Equal h = cc h
+less_from Greater h = cc h
+
+-- ---- numbers, and comparisons in a row
+
+pub le_then_first : (r s : Ordering) → is_le (ordering_then r s) ≡ true → is_le r ≡ true
+le_then_first Less s h = refl
+le_then_first Equal s h = refl
+le_then_first Greater s h = cc h
+
+pub le_then_second : (r s : Ordering) → r ≡ Equal → is_le (ordering_then r s) ≡ true → is_le s ≡ true
+le_then_second Less s e h = cc e
+le_then_second Equal s e h = h
+le_then_second Greater s e h = cc h
+
+-- ---- what lies between two pre-releases of the same three numbers
 
 -- the same three numbers
 pub record SameNumbers (x y : Version) : Type 0 where
@@ -16,7 +67,7 @@ pub record SameNumbers (x y : Version) : Type 0 where
   pub patch : x.patch ≡ y.patch
 
 number_between : (a b c : ℕ) → a ≡ c → is_le (nat_cmp a b) ≡ true → is_le (nat_cmp b c) ≡ true → a ≡ b
-number_between a b c e lower upper = let first = le_from_is_le a b lower in let second = le_from_is_le b c upper in omega arith
+number_between a b c e lower upper = le_antisymm (le_from_is_le a b lower) (rw (← e) at (le_from_is_le b c upper))
 
 tied_numbers : (a b : ℕ) → a ≡ b → nat_cmp a b ≡ Equal
 tied_numbers a b e = rw e (tied_itself nat_cmp_total b)
@@ -26,7 +77,7 @@ below_pre xs ys h pre = go (length xs == 0) refl
   where
     go : (b : Bool) → (length xs == 0) ≡ b → b ≡ false
     go false e = refl
-    go true e = let low : 1 ≤ 0 = le_from_is_le 1 0 (rw (e, pre) at h) in absurd (omega arith)
+    go true e = let low : 1 ≤ 0 = le_from_is_le 1 0 (rw (e, pre) at h) in absurd (not-suc-le-zero low)
 
 -- what lies between two versions of three numbers, the upper a pre-release, is a pre-release of them
 between : (low x high : Version) → SameNumbers low high → (length high.pre == 0) ≡ false

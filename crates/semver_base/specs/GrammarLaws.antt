@@ -1,7 +1,10 @@
 -- How the longest prefix of a grammar comes from those of its parts.
-use Rattle.std.proofs.Common.{◌≡◌, ◌≤◌, ◌<◌, ◌+◌, ℕ, List, [], ◌∷◌, ◌++◌, length, Option, Some, None, refl, sym, ap, ◌∙◌, arith, append_assoc, length-append}
+use Rattle.std.proofs.Common.{◌≡◌, ◌≤◌, ◌<◌, ℕ, List, [], ◌∷◌, ◌++◌, length, Option, Some, None, refl, sym, ap, ◌∙◌, append_assoc, append-nil}
 use Rattle.std.proofs.lemmas.List.{nil_from_length}
+use Prim.Native.Nat.{zero-le, suc-le-suc}
+use native.Mathlib.Nat.{le_antisymm, le_of_eq, le_trans, lt_irrefl, suc_inj, not-suc-le_self}
 use Rattle.semver_base.specs.Grammar.{Either, this, that, IsLongest, HasNone, Followed, Joined, Mapped, Prefixed, Optional}
+use Rattle.semver_base.specs.LengthLaws.{front_le, rest_le, join_le, join_cancel, goes_on}
 
 -- two prefixes of one text: they are the same, or one is longer
 pub data Fronts (a b c d : List ℕ) : Type 0 where
@@ -59,8 +62,8 @@ pub record NonEmpty {V : Type 0} (A : List ℕ → V → Type 0) : Type 0 where
 pub same_fronts : (a b c d : List ℕ) → a ++ c ≡ b ++ d → length a ≡ length b → (a ≡ b) × (c ≡ d)
 same_fronts a b c d e h = elim (fronts a b c d e) [
   | same p q ↦ (p, q)
-  | shorter x more p q ↦ absurd (omega (arith, ap length p, length-append a (x ∷ more)))
-  | longer x more p q ↦ absurd (omega (arith, ap length p, length-append b (x ∷ more)))
+  | shorter x more p q ↦ absurd (goes_on a x more p (le_of_eq (sym h)))
+  | longer x more p q ↦ absurd (goes_on b x more p (le_of_eq h))
 ]
 
 pair_is : {V W : Type 0} (u : V × W) (v : V) (w : W) → u.0 ≡ v → u.1 ≡ w → u ≡ (v, w)
@@ -87,18 +90,19 @@ module _ {V W : Type 0} {S : List ℕ → List ℕ → Type 0} {A : List ℕ →
       go a b u e f =
           let split : text ≡ f.first ++ (f.second ++ b) = e ∙ (ap (λ t. t ++ b) f.text_is ∙ append_assoc f.first f.second b) in
           let best = p.longest f.first (f.second ++ b) u.0 split f.in_first in
-          let la : length a ≡ length f.first + length f.second = ap length f.text_is ∙ length-append f.first f.second in
-          let lf : length (p.front ++ q.front) ≡ length p.front + length q.front = length-append p.front q.front in
           elim (fronts f.first p.front (f.second ++ b) middle (sym split ∙ p.text_is)) [
             | same one two ↦
                 let next = q.longest f.second b u.1 (sym two) f.in_second in
-                (omega (arith, ap length one), λ h. let i : u.0 ≡ v = best.1 (ap length one) in let j : u.1 ≡ w = next.1 (omega (arith, ap length one)) in pair_is u v w i j)
+                let is : a ≡ p.front ++ f.second = f.text_is ∙ ap (λ t. t ++ f.second) one in (
+                  rw is (join_le p.front f.second q.front next.0),
+                  λ h. pair_is u v w (best.1 (ap length one)) (next.1 (join_cancel p.front f.second q.front (rw is at h))),
+                )
             | shorter x more one two ↦
                 let empty : f.second ≡ [] = nothing_more f.first more f.second b middle x apart f.in_first (rw one at p.stands) two f.in_second f.seam in
-                let lp = ap length one ∙ length-append f.first (x ∷ more) in
-                let ls = ap length empty in
-                (omega (arith, lp, ls), λ h. absurd (omega (arith, lp, ls)))
-            | longer x more one two ↦ absurd (omega (arith, ap length one, length-append p.front (x ∷ more)))
+                let is : a ≡ f.first = f.text_is ∙ (ap (λ t. f.first ++ t) empty ∙ append-nil f.first) in
+                let whole : p.front ++ q.front ≡ a ++ (x ∷ (more ++ q.front)) = rw is (ap (λ t. t ++ q.front) one ∙ append_assoc f.first (x ∷ more) q.front) in
+                (rw whole (front_le a (x ∷ (more ++ q.front))), λ h. absurd (goes_on a x (more ++ q.front) whole (le_of_eq (sym h))))
+            | longer x more one two ↦ absurd (goes_on p.front x more one best.0)
           ]
 
   pub joined_none_first : {text : List ℕ} → HasNone A text → HasNone (Joined S A B) text
@@ -116,7 +120,7 @@ module _ {V W : Type 0} {S : List ℕ → List ℕ → Type 0} {A : List ℕ →
             | shorter x more one two ↦
                 let empty : f.second ≡ [] = nothing_more f.first more f.second b middle x apart f.in_first (rw one at p.stands) two f.in_second f.seam in
                 q.none [] middle u.1 refl (rw empty at f.in_second)
-            | longer x more one two ↦ omega (arith, best.0, ap length one, length-append p.front (x ∷ more))
+            | longer x more one two ↦ goes_on p.front x more one best.0
           ]
 
 module _ {V : Type 0} {A : List ℕ → V → Type 0} where
@@ -125,15 +129,14 @@ module _ {V : Type 0} {A : List ℕ → V → Type 0} where
     where
       go : (a b : List ℕ) (u : Option V) → text ≡ a ++ b → Optional A a u → (length a ≤ length p.front) × (length a ≡ length p.front → u ≡ Some v)
       go a b None e h =
-          let la : length a ≡ 0 = ap length h in
-          (omega arith, λ same. absurd (never.some v (let nil : p.front ≡ [] = nil_from_length p.front (omega arith) in rw nil at p.stands)))
+          (rw h zero-le, λ same. absurd (never.some v (let nil : p.front ≡ [] = nil_from_length p.front (sym same ∙ ap length h) in rw nil at p.stands)))
       go a b (Some w) e h = let best = p.longest a b w e h in (best.0, λ same. ap Some (best.1 same))
 
   pub optional_none : {text : List ℕ} → HasNone A text → IsLongest (Optional A) text None text
   optional_none {text} p = record { front = []; text_is = refl; stands = refl; longest = go }
     where
       go : (a b : List ℕ) (u : Option V) → text ≡ a ++ b → Optional A a u → (length a ≤ 0) × (length a ≡ 0 → u ≡ None)
-      go a b None e h = (let la : length a ≡ 0 = ap length h in omega arith, λ same. refl)
+      go a b None e h = (le_of_eq (ap length h), λ same. refl)
       go a b (Some w) e h = absurd (p.none a b w e h)
 
   pub prefixed_some : {m : ℕ} {text after rest : List ℕ} {v : V} → text ≡ m ∷ after → IsLongest A after v rest → IsLongest (Prefixed m A) text v rest
@@ -144,7 +147,7 @@ module _ {V : Type 0} {A : List ℕ → V → Type 0} where
       go (x ∷ a) b w e h =
           let tail : after ≡ a ++ b = cc in
           let best = p.longest a b w tail h.1 in
-          (omega (arith, best.0), λ same. best.1 (omega arith))
+          (suc-le-suc best.0, λ same. best.1 (suc_inj same))
 
   pub prefixed_none : {m : ℕ} {text after : List ℕ} → text ≡ m ∷ after → HasNone A after → HasNone (Prefixed m A) text
   prefixed_none {m} {text} {after} is p = record { none = go }
@@ -223,7 +226,7 @@ pub one_front : {V : Type 0} {R : List ℕ → V → Type 0} {text rest end : Li
 one_front {V} {R} {text} {rest} {end} {v} {w} p q =
     let shorter_first = (q.longest p.front rest v p.text_is p.stands).0 in
     let first = p.longest q.front end w q.text_is q.stands in
-    let even : length p.front ≡ length q.front = omega (arith, shorter_first, first.0) in
+    let even : length p.front ≡ length q.front = le_antisymm shorter_first first.0 in
     (sym (first.1 (sym even)), (same_fronts p.front q.front rest end (sym p.text_is ∙ q.text_is) even).1)
 
 -- a prefix that a text of B follows is the longest, if no text of A continues with a byte with which B begins
@@ -231,7 +234,7 @@ pub rest_is : {V W : Type 0} {A : List ℕ → V → Type 0} {B : List ℕ → W
 rest_is {V} {W} {A} {B} {text} {middle} {v} apart some p a b u w e h k = elim (fronts a p.front b middle (sym e ∙ p.text_is)) [
   | same one two ↦ two
   | shorter x more one two ↦ absurd (begins b more x two k (rw one at p.stands))
-  | longer x more one two ↦ absurd (omega (arith, (p.longest a b u e h).0, ap length one, length-append p.front (x ∷ more)))
+  | longer x more one two ↦ absurd (goes_on p.front x more one (p.longest a b u e h).0)
 ]
   where
     begins : (b more : List ℕ) (x : ℕ) → b ≡ (x ∷ more) ++ middle → B b w → A (a ++ (x ∷ more)) v → ⊥
@@ -248,6 +251,8 @@ either_longer {V} {A} {B} {text} {rest} {more} {v} p q less = record { front = p
     go a b w e (this h) = p.longest a b w e h
     go a b w e (that h) =
         let best = (q.longest a b w e h).0 in
-        let one = ap length p.text_is ∙ length-append p.front rest in
-        let two = ap length q.text_is ∙ length-append q.front more in
-        (omega (arith, best, one, two, less), λ s. absurd (omega (arith, best, one, two, less, s)))
+        elim (fronts p.front q.front rest more (sym p.text_is ∙ q.text_is)) [
+          | same one two ↦ absurd (lt_irrefl (length more) (rw two at less))
+          | shorter x m one two ↦ absurd (not-suc-le_self (length more) (le_trans (suc-le-suc (rest_le (x ∷ m) more)) (rw two at less)))
+          | longer x m one two ↦ (le_trans best (rw one (front_le q.front (x ∷ m))), λ s. absurd (goes_on q.front x m one (rw s at best)))
+        ]

@@ -1,11 +1,13 @@
 -- Grammars in which a text has one value.
-use Rattle.std.proofs.Common.{◌≡◌, ◌≤◌, ℕ, Bool, true, false, List, [], ◌∷◌, ◌++◌, length, Option, Some, None, refl, sym, ap, ◌∙◌, arith, append-nil, length-append}
+use Rattle.std.proofs.Common.{◌≡◌, ◌≤◌, ℕ, Bool, true, false, List, [], ◌∷◌, ◌++◌, length, Option, Some, None, refl, sym, ap, ◌∙◌, append-nil}
 use Rattle.std.specs.List.{list_all}
 use Rattle.std.proofs.lemmas.Bool.{and_from, and_parts, both_ways}
+use native.Mathlib.Nat.{le_of_eq}
 use Rattle.semver_base.specs.Grammar.{After, Before, Either, this, that, IsLongest, Followed, Joined, Listed, last_item, closed_item, more_items, Mapped, Prefixed, Optional, Run, Stops}
-use Rattle.semver_base.proofs.Fronts.{Apart, GoesOn, NoClash, NonEmpty, fronts, same, shorter, longer, no_clash}
-use Rattle.semver_base.proofs.Bytes.{BeginsBy, Disjoint, GoesBy, MadeOf, list_all-wider}
-use Rattle.semver_base.proofs.Lists.{IsListing, item_apart, listed_some, separator_apart, stops_here}
+use Rattle.semver_base.specs.LengthLaws.{front_le, goes_on}
+use Rattle.semver_base.specs.GrammarLaws.{Apart, GoesOn, NoClash, NonEmpty, fronts, same, shorter, longer, no_clash}
+use Rattle.semver_base.specs.ByteLaws.{BeginsBy, Disjoint, GoesBy, MadeOf, list_all-wider}
+use Rattle.semver_base.specs.ListLaws.{IsListing, item_apart, listed_some, separator_apart, stops_here}
 
 -- a text of A has one value
 pub record Unambiguous {V : Type 0} (A : List ℕ → V → Type 0) : Type 0 where
@@ -17,9 +19,9 @@ in_place {V} {A} {p} {v} u g t rest h stops = record { front = t; text_is = refl
   where
     go : (a b : List ℕ) (w : V) → t ++ rest ≡ a ++ b → A a w → (length a ≤ length t) × (length a ≡ length t → w ≡ v)
     go a b w e k = elim (fronts t a rest b e) [
-      | same one two ↦ (omega (arith, ap length one), λ _. u.one a w v k (rw one at h))
+      | same one two ↦ (le_of_eq (ap length (sym one)), λ _. u.one a w v k (rw one at h))
       | shorter x m one two ↦ stops_here p x m rest b stops two (g.goes x (record { front = t; more = m; short_value = v; long_value = w; short = h; long = rw one at k }))
-      | longer x m one two ↦ let le = ap length one ∙ length-append a (x ∷ m) in (omega (arith, le), λ s. absurd (omega (arith, le)))
+      | longer x m one two ↦ (rw one (front_le a (x ∷ m)), λ s. absurd (goes_on a x m one (le_of_eq (sym s))))
     ]
 
 -- ---- texts of two grammars
