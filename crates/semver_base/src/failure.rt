@@ -80,8 +80,18 @@ impl ParseFailure {
         ensures { (result ≡ None) ⊎
             (result ≡ Some (message.now, option_copied code_snippet.entry)) }
     {
-        match copied(alloc, message, code_snippet) {
-            Ok(texts) => ParseFailure { texts: Some(texts) },
+        let Ok(message) = SmallStackString::from_str(alloc, message) else {
+            return ParseFailure::memory();
+        };
+        let Some(snippet) = code_snippet else {
+            return ParseFailure {
+                texts: Some((message, None)),
+            };
+        };
+        match SmallStackString::from_str(alloc, snippet) {
+            Ok(snippet) => ParseFailure {
+                texts: Some((message, Some(snippet))),
+            },
             Err(_) => ParseFailure::memory(),
         }
     }
@@ -148,20 +158,6 @@ impl ParseFailure {
             Some((_, None)) => None,
             Some((_, Some(snippet))) => Some(snippet.as_str()),
         }
-    }
-}
-
-fn copied(
-    alloc: Global,
-    message: &str,
-    code_snippet: Option<&str>,
-) -> Result<(SmallStackString, Option<SmallStackString>), AllocError>
-    ensures { IfOk result (λ t. t ≡ (message.now, option_copied code_snippet.entry)) }
-{
-    let message = SmallStackString::from_str(alloc, message)?;
-    match code_snippet {
-        None => Ok((message, None)),
-        Some(snippet) => Ok((message, Some(SmallStackString::from_str(alloc, snippet)?))),
     }
 }
 

@@ -3,7 +3,7 @@
 ghost use Rattle.std.specs.Prelude.{◌≡◌, ◌∷◌, ◌⊎◌, [], IfOk, IfSome};
 ghost use Rattle.std.specs.Bool.{OnFalse, OnTrue};
 ghost use Rattle.std.specs.List.{list_any};
-ghost use Rattle.semver_base.specs.Clamp.{clamped, clamped_end, clamped_start, of_tied, stopped_at, AdmitsBoth, HaveCrossed, HoldsBoth, HoldsNothing, MatchesBoth, MeansBoth};
+ghost use Rattle.semver_base.specs.Clamp.{clamped, clamped_end, clamped_start, stopped_at, AdmitsBoth, HaveCrossed, HoldsBoth, HoldsNothing, MatchesBoth, MeansBoth};
 ghost use Rattle.semver_base.specs.Meaning.{alternative_means, alternative_means_with, alternatives, bounds_hold, end_holds, everything, has_pre_of, is_unrestricted, nothing, start_holds, tree_means, tree_means_with};
 ghost use Rattle.semver_base.specs.Overlap.{ends_at_zero, overlap, some_overlap, starts_before, HoldNothingTogether, HoldsNoRelease, MatchNothingTogether};
 ghost use Rattle.semver_base.specs.declared.range.PreRelease.TheVariants.{Restricted};

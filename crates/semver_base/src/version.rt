@@ -1,10 +1,9 @@
 //! Versions: parsing, formatting and precedence.
 
-ghost use Rattle.std.specs.Prelude.{◌≡◌, ◌<◌, ◌==◌, ◌&&◌, ◌∷◌, ◌↔◌, ◌⊎◌, length, refl, Result, Ok, Err, IfOk, IfErr, IfSome, [], None, Some, if◌then◌else◌, codes};
+ghost use Rattle.std.specs.Prelude.{◌≡◌, ◌<◌, ◌==◌, ◌&&◌, ◌↔◌, ◌⊎◌, length, refl, Result, Ok, Err, IfOk, IfErr, IfSome, [], None, Some, if◌then◌else◌, codes};
 ghost use Rattle.std.specs.Fmt.{DisplaysOnOk};
 ghost use Rattle.std.specs.Str.{trim};
 ghost use Rattle.std.specs.Cmp.{IsTotalOrder};
-ghost use Rattle.std.specs.Cmp.Lexicographic.{slice_cmp};
 ghost use Rattle.std.specs.Ordering.{as_partial_cmp};
 ghost use Rattle.semver_base.specs.declared.failure.Rejection.{Rejection};
 ghost use Rattle.semver_base.specs.Grammar.{IsLongest};
@@ -337,9 +336,22 @@ fn cmp_identifier(a: &VersionPreOrBuild, b: &VersionPreOrBuild) -> Ordering
     }
 }
 
-fn cmp_identifiers(a: &[VersionPreOrBuild], b: &[VersionPreOrBuild]) -> Ordering
-    ensures { result ≡ slice_cmp identifier_cmp a.now b.now }
+// Compares pre-releases. Emptiness is known without following the list's pointer.
+#[inline(never)]
+fn cmp_pre(a: &CowVec<VersionPreOrBuild>, b: &CowVec<VersionPreOrBuild>) -> Ordering
+    ensures { result ≡ pre_cmp a.now b.now }
 {
+    if a.is_empty() {
+        return if b.is_empty() {
+            Ordering::Equal
+        } else {
+            Ordering::Greater
+        };
+    }
+    if b.is_empty() {
+        return Ordering::Less;
+    }
+    let (a, b) = (a.as_slice(), b.as_slice());
     for (x, y) in a.iter().zip(b) {
         let ordering = cmp_identifier(x, y);
         if ordering != Ordering::Equal {
@@ -347,19 +359,6 @@ fn cmp_identifiers(a: &[VersionPreOrBuild], b: &[VersionPreOrBuild]) -> Ordering
         }
     }
     a.len().cmp(&b.len())
-}
-
-// Compares pre-releases. Emptiness is known without following the list's pointer.
-#[inline(never)]
-fn cmp_pre(a: &CowVec<VersionPreOrBuild>, b: &CowVec<VersionPreOrBuild>) -> Ordering
-    ensures { result ≡ pre_cmp a.now b.now }
-{
-    match (a.is_empty(), b.is_empty()) {
-        (true, true) => Ordering::Equal,
-        (true, false) => Ordering::Greater,
-        (false, true) => Ordering::Less,
-        (false, false) => cmp_identifiers(a.as_slice(), b.as_slice()),
-    }
 }
 
 // Compares by precedence: by the first number that differs, and by pre-releases only if all three tie.
@@ -431,20 +430,6 @@ fn cmp_qualifiers(a: &Version, b: &Version) -> Ordering
     a.pre.is_empty().cmp(&b.pre.is_empty())
 }
 
-// Writes a separator and the identifier after it.
-fn write_identifier<W: fmt::Write>(
-    f: &mut fmt::Formatter<W>,
-    separator: char,
-    identifier: &str,
-) -> fmt::Result
-    requires { separator < 128 }
-    ensures { DisplaysOnOk W.write_str_gives f.old result
-        (Some (separator ∷ identifier.now)) f.new }
-{
-    f.write_char(separator)?;
-    f.write_str(identifier)
-}
-
 // Writes the identifiers, the prefix before the first and a `.` before each other one.
 fn write_prefixed<W: fmt::Write>(
     f: &mut fmt::Formatter<W>,
@@ -457,7 +442,8 @@ fn write_prefixed<W: fmt::Write>(
 {
     let mut separator = prefix;
     for identifier in identifiers {
-        write_identifier(f, separator, identifier.as_str())?;
+        f.write_char(separator)?;
+        f.write_str(identifier.as_str())?;
         separator = '.';
     }
     Ok(())

@@ -11,7 +11,6 @@ ghost use Rattle.semver_base.specs.VersionText.{version_text};
 use crate::range::{RangeBound, VersionBound, VersionBoundKind, VersionRange, VersionRangeSet};
 use crate::string::StringAppendable;
 use crate::version::{Version, is_unqualified};
-use std::alloc::{AllocError, Global};
 use std::fmt;
 
 // How a range with both bounds is formatted.

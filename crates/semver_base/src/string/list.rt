@@ -154,17 +154,6 @@ impl<'a, T> IntoIterator for &'a CowVec<T> {
     }
 }
 
-// Copies the items.
-fn copied<T: CowItem + Drop>(alloc: Global, items: &[T]) -> Result<Vec<T>, AllocError>
-    ensures { IfOk result (λ v. v.items ≡ items.now) }
-{
-    let mut all = Vec::new(alloc);
-    for item in items {
-        all.push(item.copy()?)?;
-    }
-    Ok(all)
-}
-
 impl<T: CowItem + Drop> CowVec<T> {
     /// Appends `item`. On failure the list is unchanged and the item is dropped.
     pub fn push(&mut self, item: T) -> Result<(), AllocError>
@@ -178,7 +167,11 @@ impl<T: CowItem + Drop> CowVec<T> {
                 return Ok(());
             }
         }
-        let mut items = copied(alloc, self.as_slice())?;
+        let listed = self.as_slice();
+        let mut items = Vec::new(alloc);
+        for it in listed {
+            items.push(it.copy()?)?;
+        }
         items.push(item)?;
         self.items = Items::Many(Rc::new(alloc, items)?);
         Ok(())

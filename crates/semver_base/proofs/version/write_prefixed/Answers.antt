@@ -1,9 +1,10 @@
-use Rattle.std.proofs.Common.{◌≡◌, ◌<◌, ◌+◌, ℕ, zero, suc, List, [], ◌∷◌, ◌++◌, length, take, get_or, refl, sym, append-nil, add-one, arith, rules, ◌==◌, if◌then◌else◌}
+use Rattle.std.proofs.Common.{◌≡◌, ◌<◌, ◌+◌, ℕ, zero, suc, List, [], ◌∷◌, ◌++◌, length, take, get_or, refl, sym, append-nil, add-one, arith, true, ◌==◌, if◌then◌else◌}
 use Rattle.std.proofs.Math.Dec.{eqb-suc-zero}
 use Rattle.std.proofs.Math.Seq.{take-suc}
-use Rattle.std.proofs.Output.{has_written_append, has_written_of_eq}
 use Rattle.std.proofs.lemmas.Bool.Decides.{nat_tests}
+use Rattle.std.proofs.lemmas.Grind.{put_three}
 use Rattle.std.proofs.lemmas.List.{flat_map_more}
+use Rattle.std.proofs.lemmas.Str.{encode_ascii}
 use Rattle.semver_base.specs.VersionText.{prefixed}
 use Rattle.semver_base.proofs.version.write_prefixed.Goals as goal
 
@@ -21,7 +22,10 @@ pub loop-identifier-preserved : goal.loop-identifier-preserved
 loop-identifier-preserved g c = (
   omega arith,
   grind (arith, nat_tests),
-  λ p. has_written_of_eq _ _ _ _ _
-      (sym (prefixed_step c.args.prefix c.loop-identifier.separator c.args.identifiers.now c.loop-identifier.identifier-index c.identifier-item.result c.loop-identifier-test.true c.identifier-item.is c.loop-identifier.invariant.1))
-      (has_written_append _ _ _ _ _ _ (c.loop-identifier.invariant.2 p) (search rules)),
+  λ p.
+      let so_far = c.loop-identifier.invariant.2 p in
+      let separator = c.in_ok-write_char.ensures.writes so_far.plain (refl {a = true}) in
+      let identifier = c.in_ok-write_str.ensures.writes separator.plain (refl {a = true}) in
+      put_three _ _ _ _ _ _ _ _ _ so_far separator identifier
+      (rw (encode_ascii _ c.loop-identifier.invariant.0, c.as_str.ensures.value) (sym (prefixed_step c.args.prefix c.loop-identifier.separator c.args.identifiers.now c.loop-identifier.identifier-index c.identifier-item.result c.loop-identifier-test.true c.identifier-item.is c.loop-identifier.invariant.1))),
 )
