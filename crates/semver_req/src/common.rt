@@ -10,7 +10,7 @@ ghost use Rattle.semver_base.specs.Grammar.{IsAfterOne, Reads, ReadsAs, answer_o
 ghost use Rattle.semver_base.specs.Lexical.{IsQualifier, IsSomeWhitespace};
 ghost use Rattle.semver_req.specs.Comparators.{IsMaybeEqual, IsPrimitive, IsPrimitiveKind, sized_primitive};
 ghost use Rattle.semver_req.specs.Partials.{IsComponent, IsLongestAt, IsPartial, IsBarePartial, ReadsAt, ReadsDotted, answer_at, assembled, is_wildcard, sized_component, sized_partial, strictness_of};
-ghost use Rattle.semver_req.specs.Pieces.{IsOperator, place_answer, IsHyphenPair, IsNpmSeparator, IsSeparator};
+ghost use Rattle.semver_req.specs.Pieces.{IsOperator, place_answer, IsHyphenPair, IsSeparator};
 ghost use Rattle.semver_req.specs.PieceSteps.{sized_hyphen};
 ghost use Rattle.std.specs.Char.{is_whitespace};
 
@@ -201,30 +201,25 @@ pub fn after_operator(text: &str, operator: char) -> Option<&str>
     }
 }
 
-// Strips a separator of npm's comparators: `&&` or `,` with optional whitespace around it, or whitespace alone.
-fn after_npm_separator(text: &str) -> Option<&str>
-    ensures { Reads IsNpmSeparator text.now (rest_answer result) }
-{
-    let rest = after_whitespace(text);
-    if let Some(more) = after(rest, ',') {
-        return Some(after_whitespace(more));
-    }
-    if let Some(more) = after_twice(rest, '&') {
-        return Some(after_whitespace(more));
-    }
-    if rest.len() == text.len() {
-        return None;
-    }
-    Some(rest)
-}
-
 /// Strips a leading separator of the grammar's comparators: in npm's grammar `&&` or `,` with optional whitespace around it,
 /// or whitespace alone (node-semver's range grammar, `range`; npm accepts `&&` and `,`); in the normalized one whitespace.
 pub fn after_separator(text: &str, flavour: Flavour) -> Option<&str>
     ensures { Reads (IsSeparator flavour) text.now (rest_answer result) }
 {
     match flavour {
-        Flavour::Npm => after_npm_separator(text),
+        Flavour::Npm => {
+            let rest = after_whitespace(text);
+            if let Some(more) = after(rest, ',') {
+                return Some(after_whitespace(more));
+            }
+            if let Some(more) = after_twice(rest, '&') {
+                return Some(after_whitespace(more));
+            }
+            if rest.len() == text.len() {
+                return None;
+            }
+            Some(rest)
+        }
         Flavour::Normal => after_some_whitespace(text),
         Flavour::Specifier => None,
     }

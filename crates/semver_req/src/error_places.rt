@@ -166,19 +166,6 @@ fn is_range(alloc: Global, text: &str, sizes: Sizes) -> Result<bool, ParseFailur
     Ok(false)
 }
 
-// Whether some range of the strict grammar begins with the prefix.
-fn is_viable_range(alloc: Global, prefix: &str, sizes: Sizes) -> Result<bool, ParseFailure>
-    ensures value { IfOk result
-        (λ yes. IsTrue yes ↔ IsViablePrefix (Sized sizes (IsPart Flavour.Specifier)) prefix.now) }
-    ensures memory { IfErr result (λ failure. failure ≡ None) }
-{
-    if is_range(alloc, prefix, sizes)? {
-        return Ok(true);
-    }
-    let text = format!(in alloc; "{prefix}1")?;
-    is_range(alloc, &text, sizes)
-}
-
 // With one of these endings, each prefix of a version's text is a version's text.
 const ENDINGS: [&str; 6] = ["", "1", "1.1", "1.1.1", ".1", ".1.1"];
 
@@ -211,7 +198,13 @@ fn is_viable(alloc: Global, prefix: &str, grammar: Grammar) -> Result<bool, Pars
         Grammar::Ranges(flavour, sizes) => match flavour {
             Flavour::Npm => is_viable_piece(alloc, prefix, Flavour::Npm, sizes),
             Flavour::Normal => is_viable_piece(alloc, prefix, Flavour::Normal, sizes),
-            Flavour::Specifier => is_viable_range(alloc, prefix, sizes),
+            Flavour::Specifier => {
+                if is_range(alloc, prefix, sizes)? {
+                    return Ok(true);
+                }
+                let text = format!(in alloc; "{prefix}1")?;
+                is_range(alloc, &text, sizes)
+            }
         },
         Grammar::Versions => is_viable_version(alloc, prefix),
     }

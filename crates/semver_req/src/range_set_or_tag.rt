@@ -2,7 +2,7 @@
 
 ghost use Rattle.std.specs.Prelude.{◌≡◌, ◌⊎◌, IfErr, IfOk, None, Some, false, refl};
 ghost use Rattle.std.specs.Bool.{OnFalse};
-ghost use Rattle.std.specs.Str.{trim, chars};
+ghost use Rattle.std.specs.Str.{trim};
 ghost use Rattle.semver_req.specs.Outcome.{IsCutOutcome, IsOutcome, Rejected};
 ghost use Rattle.semver_req.specs.PieceReading.{IsCutRejection};
 ghost use Rattle.semver_req.specs.Parsers.{IsCutReading, IsReading};
@@ -20,7 +20,7 @@ use pieces::read_pieces;
 pub use pieces::{FirstPiece, RangeOrInvalid, first_piece, next_piece};
 use semver_base::failure::ParseFailure;
 use semver_base::lexical::is_all_whitespace;
-use semver_base::range::{VersionRange, VersionRangeSet};
+use semver_base::range::VersionRangeSet;
 use semver_base::string::{CowVec, SmallStackString, StringAppendable};
 use std::alloc::{AllocError, Global};
 use std::fmt;

@@ -3,7 +3,7 @@
 ghost use Rattle.std.specs.Prelude.{◌≡◌, ◌&&◌, None};
 ghost use Rattle.semver_req.specs.Requirement.{inner_means, inner_means_with, tag_of};
 ghost use Rattle.semver_req.specs.Resolve.{IsBestMatch, IsOnlyMatch, higher, lower};
-ghost use Rattle.semver_req.specs.ResolveSteps.{exceeds, known_of, nearer};
+ghost use Rattle.semver_req.specs.ResolveSteps.{nearer};
 
 use crate::req::VersionReq;
 use semver_base::range::PreRelease;
@@ -14,26 +14,6 @@ use semver_base::version::Version;
 enum End {
     Highest,
     Lowest,
-}
-
-// Whether the version matches and is nearer to the end than the best match so far, if any.
-fn is_better(
-    version: &Version,
-    known: Option<(usize, &Version)>,
-    requirement: &VersionReq,
-    pre_release: PreRelease,
-    end: End,
-) -> bool
-    requires { tag_of requirement.now.inner ≡ None }
-    ensures { result ≡ (inner_means_with pre_release requirement.now.inner version.now
-        && exceeds (nearer end) version.now (known_of known.entry)) }
-{
-    requirement.matches_with(version, pre_release)
-        && match (known, end) {
-            (None, _) => true,
-            (Some((_, known)), End::Highest) => known.cmp_precedence(version).is_lt(),
-            (Some((_, known)), End::Lowest) => version.cmp_precedence(known).is_lt(),
-        }
 }
 
 // The index of the first of the matches nearest to the end.
@@ -49,9 +29,15 @@ fn first_best(
     ensures only { IsOnlyMatch (nearer end)
         (λ v. inner_means_with pre_release requirement.now.inner v) versions.now result }
 {
-    let mut best = None;
+    let mut best: Option<(usize, &Version)> = None;
     for (place, version) in versions.iter().enumerate() {
-        if is_better(version, best, requirement, pre_release, end) {
+        let is_better = requirement.matches_with(version, pre_release)
+            && match (best, end) {
+                (None, _) => true,
+                (Some((_, known)), End::Highest) => known.cmp_precedence(version).is_lt(),
+                (Some((_, known)), End::Lowest) => version.cmp_precedence(known).is_lt(),
+            };
+        if is_better {
             best = Some((place, version));
         }
     }

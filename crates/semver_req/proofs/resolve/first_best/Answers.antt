@@ -1,8 +1,8 @@
-use Rattle.std.proofs.Common.{◌≡◌, ◌+◌, ◌++◌, [], ◌∷◌, List, Some, take, sym, ap, ◌∙◌, arith}
+use Rattle.std.proofs.Common.{rules, ◌≡◌, ◌&&◌, ◌+◌, ◌++◌, [], ◌∷◌, List, Some, take, sym, ap, ◌∙◌, arith}
 use Rattle.std.proofs.lemmas.List.{length-take-le, take_all, take_more}
 use Rattle.semver_base.specs.declared.version.Version.{Version}
 use Rattle.semver_req.specs.Requirement.{inner_means_with}
-use Rattle.semver_req.specs.ResolveSteps.{known_of, nearer}
+use Rattle.semver_req.specs.ResolveSteps.{exceeds, known_of, nearer}
 use Rattle.semver_req.proofs.BestMatches.{nearer_ranks, one_match, stays, taken}
 use Rattle.semver_req.proofs.resolve.first_best.Goals as goal
 use Rattle.semver_req.proofs.resolve.first_best.Goals.{then-is_better, else-is_better}
@@ -17,9 +17,10 @@ loop-place-preserved c =
     let v : Version = c.index-versions-place.result in
     let more : take (l.place + 1) c.args.versions.now ≡ seen ++ v ∷ [] =
     take_more c.args.versions.now l.place v c.loop-place-test.true ∙ ap (λ (w : Version). seen ++ w ∷ []) (sym c.index-versions-place.is) in
+    let is : c.if-matches_with.is_better ≡ (means v && exceeds near v (known_of l.best)) = search rules in
     elim c.if-is_better.branch [
-      | then-is_better w ↦ rw (more, w.best-is) (taken near ranks means seen (known_of l.best) l.place v (length-take-le l.place c.args.versions.now (omega (arith, c.loop-place-test.true))) l.invariant (sym c.is_better.ensures ∙ w.if-is_better.true))
-      | else-is_better w ↦ rw (more, w.best-is) (stays near ranks means seen (known_of l.best) v l.invariant (sym c.is_better.ensures ∙ w.if-is_better.false))
+      | then-is_better w ↦ rw (more, w.best-is) (taken near ranks means seen (known_of l.best) l.place v (length-take-le l.place c.args.versions.now (omega (arith, c.loop-place-test.true))) l.invariant (sym is ∙ w.if-is_better.true))
+      | else-is_better w ↦ rw (more, w.best-is) (stays near ranks means seen (known_of l.best) v l.invariant (sym is ∙ w.if-is_better.false))
     ]
 
 pub returns-in-Some-clause-only : goal.returns-in-Some-clause-only
