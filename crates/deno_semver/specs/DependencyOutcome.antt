@@ -1,6 +1,5 @@
 -- What the text of a JSR package's dependency parses to, and why it is rejected. Source: the crate `deno_semver`.
-use Rattle.std.specs.Prelude.{◌≡◌, ◌++◌, ◌⊎◌, ℕ, List, Option, Result, Ok, Err, MatchOption, MatchResult, IsErrAnd, string_bytes, take_while}
-use Rattle.std.specs.Borrow.{Bor}
+use Rattle.std.specs.Prelude.{◌≡◌, ◌++◌, ◌⊎◌, ℕ, List, Result, Ok, Err, MatchResult, IsErrAnd, string_bytes, take_while}
 use Rattle.semver_base.specs.Characters.{colon}
 use Rattle.semver_req.specs.declared.common.values.Flavour.{Flavour}
 use Rattle.deno_semver.specs.Cuts.{is_not}
@@ -69,11 +68,6 @@ IsSameError (error.NotExpectedScheme scheme) (error.NotExpectedScheme other) = s
 IsSameError (error.PackageReqParse inner) e = e ≡ error.PackageReqParse inner
 IsSameError error.Memory e = e ≡ error.Memory
 IsSameError (error.NotExpectedScheme scheme) e = ⊥
-
--- the registry and what follows its scheme, or none if the text begins with neither scheme
-abbrev pub IsAfterEither : List ℕ → Option (PackageKind × Bor (List ℕ)) → Type 0
-IsAfterEither text r =
-    MatchOption r ((kind : PackageKind) → LacksScheme kind text) (λ p. text ≡ scheme_of p.0 ++ p.1.now)
 
 -- the error shows the scheme, or is out of memory
 abbrev pub IsReportedScheme : List ℕ → JsrDepPackageReqParseError → Type 0

@@ -3,7 +3,7 @@
 ghost use Rattle.std.specs.Prelude.{◌≡◌, IfOk};
 ghost use Rattle.std.specs.Cow.{cow_str_bytes};
 ghost use Rattle.std.specs.Option.{option_copied};
-ghost use Rattle.deno_semver.specs.ExportName.{IsExportName, dotted, export_name, without_last_slash};
+ghost use Rattle.deno_semver.specs.ExportName.{IsExportName, export_name, without_last_slash};
 ghost use Rattle.deno_semver.specs.declared.package.values.PackageKind.TheVariants.{Jsr};
 
 mod dependency;
@@ -42,17 +42,6 @@ fn without_last_slash(path: &str) -> &str
     }
 }
 
-// The path with `./` in front in place of one `/`, or unchanged if it begins with `./`.
-fn dotted(alloc: Global, path: &str) -> Result<CowStr<'_, Global>, AllocError>
-    ensures { IfOk result (λ name. cow_str_bytes name ≡ dotted path.now) }
-{
-    if path.starts_with("./") {
-        return Ok(CowStr::Borrowed(path));
-    }
-    let path = without_slash(path);
-    Ok(CowStr::Owned(format!(in alloc; "./{path}")?))
-}
-
 /// Returns the name of the export that a path in a JSR package means: `.`, the package's own export, without a path and for
 /// an empty path, `/` and `.`. Any other path loses one trailing `/`, and then gets `./` in front in place of one `/`, unless
 /// it begins with `./` (the exports of JSR's packages; the crate `deno_semver`).
@@ -72,7 +61,12 @@ pub fn normalized_export_name(
     if matches!(path, "" | "/" | ".") {
         return Ok(CowStr::Borrowed("."));
     }
-    dotted(alloc, without_last_slash(path))
+    let path = without_last_slash(path);
+    if path.starts_with("./") {
+        return Ok(CowStr::Borrowed(path));
+    }
+    let path = without_slash(path);
+    Ok(CowStr::Owned(format!(in alloc; "./{path}")?))
 }
 
 impl RegistryReqReference<JsrRegistry> {

@@ -189,15 +189,6 @@ impl JsonForm for JsrDepPackageReq {
     }
 }
 
-fn bound_kind_text(kind: VersionBoundKind) -> &'static str
-    ensures { result.now ≡ bound_kind_text kind }
-{
-    match kind {
-        VersionBoundKind::Inclusive => "Inclusive",
-        VersionBoundKind::Exclusive => "Exclusive",
-    }
-}
-
 /// The string `Inclusive` or `Exclusive`.
 impl JsonForm for VersionBoundKind {
     ghost json = { λ kind. string (bound_kind_text kind) };
@@ -205,7 +196,11 @@ impl JsonForm for VersionBoundKind {
     ghost parses_to = { IsStringOf IsTextOfKind };
 
     fn to_json(&self, alloc: Global) -> Result<Value, AllocError> {
-        Value::try_from_str(alloc, bound_kind_text(*self))
+        let text = match self {
+            VersionBoundKind::Inclusive => "Inclusive",
+            VersionBoundKind::Exclusive => "Exclusive",
+        };
+        Value::try_from_str(alloc, text)
     }
 
     fn from_json(_alloc: Global, value: &Value) -> Result<Self, JsonError> {

@@ -3,7 +3,7 @@
 ghost use Rattle.std.specs.Prelude.{◌≡◌, ◌↔◌, IfErr, IfOk, IsTrue, Ok, Result, Some, refl};
 ghost use Rattle.semver_req.specs.declared.common.values.Flavour.TheVariants.{Normal, Npm, Specifier};
 ghost use Rattle.deno_semver.specs.DependencyText.{dependency_text, normal_dependency_text};
-ghost use Rattle.deno_semver.specs.DependencyOutcome.{DependencyFault, IsAfterEither, IsDependencyAnswer, IsDependencyOutcome, IsDependencyRejection, IsOfPackageError, IsSameError, IsReportedScheme};
+ghost use Rattle.deno_semver.specs.DependencyOutcome.{DependencyFault, IsDependencyAnswer, IsDependencyOutcome, IsDependencyRejection, IsOfPackageError, IsSameError, IsReportedScheme};
 ghost use Rattle.deno_semver.specs.declared.jsr.dependency.JsrDepPackageReq.{JsrDepPackageReq};
 ghost use Rattle.deno_semver.specs.declared.package.values.PackageKind.TheVariants as kind;
 
@@ -73,19 +73,6 @@ pub struct JsrDepPackageReq {
     pub req: PackageReq,
 }
 
-// What follows either registry's scheme.
-fn after_either(text: &str) -> Option<(PackageKind, &str)>
-    ensures { IsAfterEither text.now result }
-{
-    if let Some(body) = PackageKind::Jsr.after_scheme(text) {
-        return Some((PackageKind::Jsr, body));
-    }
-    match PackageKind::Npm.after_scheme(text) {
-        Some(body) => Some((PackageKind::Npm, body)),
-        None => None,
-    }
-}
-
 // The error for another scheme, the text before the first `:` or all of it, or out of memory.
 fn other_scheme(alloc: Global, text: &str) -> JsrDepPackageReqParseError
     ensures { IsReportedScheme text.now result }
@@ -112,7 +99,11 @@ fn read(
         → IsDependencyOutcome flavour text.now outcome
         → IsDependencyAnswer flavour text.now outcome result }
 {
-    let Some((kind, body)) = after_either(text) else {
+    let (kind, body) = if let Some(body) = PackageKind::Jsr.after_scheme(text) {
+        (PackageKind::Jsr, body)
+    } else if let Some(body) = PackageKind::Npm.after_scheme(text) {
+        (PackageKind::Npm, body)
+    } else {
         return Err(other_scheme(alloc, text));
     };
     match package_req(alloc, body, flavour) {

@@ -11,7 +11,7 @@ ghost use Rattle.semver_req.specs.Requirement.{PinsTo, pinned, ranges_of};
 ghost use Rattle.semver_req.specs.Rereading.{IsStableSet, OfReadVersion};
 ghost use Rattle.deno_semver.specs.Cuts.{is_not};
 ghost use Rattle.deno_semver.specs.NameAndVersion.{IsNoNvText, IsNvAnswer, IsNvFront, IsNvMemory, IsNvOutcome, IsNvRejection, IsNvText, NvReadsBack, ReportsNvFault, is_version_byte};
-ghost use Rattle.deno_semver.specs.NameAndVersionSteps.{IsFrontAnswer, IsFrontRejection, ReportsFailure, name_len};
+ghost use Rattle.deno_semver.specs.NameAndVersionSteps.{IsFrontAnswer, IsFrontRejection, name_len};
 ghost use Rattle.deno_semver.specs.declared.package.values.PackageNv.{PackageNv};
 
 use super::values::{PackageName, PackageNv, PackageReq};
@@ -19,7 +19,7 @@ use semver_base::failure::Rejection;
 use semver_base::laws::{counted_runs_are_cut, version_texts_are_bare};
 use semver_base::lexical::after;
 use semver_base::string::{SmallStackString, StackString};
-use semver_base::version::{NpmVersionParseError, Version};
+use semver_base::version::Version;
 use semver_req::req::IntoVersionReq;
 use std::alloc::{AllocError, Global};
 use thiserror::Error;
@@ -140,16 +140,6 @@ fn cut(text: &str) -> Option<Parts<'_>>
     })
 }
 
-// The error for an invalid version.
-fn version_error(alloc: Global, error: &NpmVersionParseError, text: &str) -> PackageNvParseError
-    ensures { IsNvMemory result ⊎ ReportsFailure error.now.source text.now result }
-{
-    if error.is_memory() {
-        return memory(alloc);
-    }
-    reported(alloc, error.message(), text)
-}
-
 /// The error for any other fault than an invalid version, or out of memory.
 pub(crate) fn unexpected(alloc: Global, whole: &str) -> PackageNvParseError
     ensures { IsNvMemory result ⊎ ReportsNvFault UnexpectedCharacter whole.now result }
@@ -178,9 +168,13 @@ pub(crate) fn nv_at_front<'a>(
     let version = match Version::parse_from_npm(alloc, parts.version) {
         Ok(version) => version,
         Err(error) => {
-            let reported = version_error(alloc, &error, whole);
+            let failure = if error.is_memory() {
+                memory(alloc)
+            } else {
+                reported(alloc, error.message(), whole)
+            };
             drop(error);
-            return Err(reported);
+            return Err(failure);
         }
     };
     match PackageName::from_str(alloc, parts.name) {

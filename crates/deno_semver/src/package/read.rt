@@ -3,7 +3,7 @@
 ghost use Rattle.std.specs.Prelude.{◌≡◌, ◌⊎◌, IfErr, IfOk, Ok, Result, string_bytes};
 ghost use Rattle.std.specs.Option.{option_copied};
 ghost use Rattle.deno_semver.specs.PackageOutcome.{PackageFault, IsPackageAnswer, IsPackageOutcome, IsPackageRejection, IsOutOfMemory, IsVersionReq, rejected_by};
-ghost use Rattle.deno_semver.specs.PackageReading.{IsPartsRejection, IsPathError, IsReadPackage, ReportsSource};
+ghost use Rattle.deno_semver.specs.PackageReading.{IsPartsRejection, IsReadPackage, ReportsSource};
 ghost use Rattle.deno_semver.specs.ReferenceReading.{IsFrontError, IsReadWithPath};
 ghost use Rattle.deno_semver.specs.declared.package.values.PackageReq.{PackageReq};
 ghost use Rattle.semver_req.specs.declared.common.values.Flavour.TheVariants.{Normal, Npm, Specifier};
@@ -54,18 +54,6 @@ fn version_req(
             Err(_) => Err(PackageReqPartsParseError::Memory),
         },
     }
-}
-
-// The error for a path, shown with its leading `/`.
-fn path_error(alloc: Global, tail: &str) -> PackageReqPartsParseError
-    ensures { IsPathError tail.now result }
-{
-    let source = ParseFailure::with_texts(alloc, "Unexpected character '/'", Some(tail));
-    if source.is_memory() {
-        drop(source);
-        return PackageReqPartsParseError::Memory;
-    }
-    version_error(Flavour::Specifier, source)
 }
 
 // The package requirement made of a name and a version's text.
@@ -130,11 +118,17 @@ fn read(
         Ok(req) => req,
         Err(error) => return Err(error),
     };
-    if !cut.path.is_empty() {
-        drop(req);
-        return Err(path_error(alloc, cut.tail));
+    if cut.path.is_empty() {
+        return Ok(req);
     }
-    Ok(req)
+    drop(req);
+    // A path is shown with its leading `/`.
+    let source = ParseFailure::with_texts(alloc, "Unexpected character '/'", Some(cut.tail));
+    if source.is_memory() {
+        drop(source);
+        return Err(PackageReqPartsParseError::Memory);
+    }
+    Err(version_error(Flavour::Specifier, source))
 }
 
 // The error with the whole text, or out of memory; a missing `@` goes before any other fault.
