@@ -39,6 +39,10 @@ module _ (end : End) (test : Version → Bool) (versions : List Version) where
   only_best place v at only None h = absurd (cc (only None h))
   only_best place v at only (Some other) h = ap Some (same_best place v at other h (same_place other.place place (only (Some other.place) (other.version, h))))
 
+  pub none_best : IsOnlyMatch (better end) test versions None → (other : Option Best) → IsBest end test versions other → None ≡ other
+  none_best only None h = refl
+  none_best only (Some other) h = absurd (cc (only (Some other.place) (other.version, h)))
+
 -- the best match found is the result for a range that isn't a tag
 pub best_answer : (end : End) (flag : PreRelease) (read : RangeSetOrTag) (versions : List Version) → tag_of read ≡ None → (best : Option Best) → IsBest end (inner_means_with flag read) versions best
     → ((other : Option Best) → IsBest end (inner_means_with flag read) versions other → best ≡ other) → IsAnswer (BestOf end flag read versions) (λ (a : Answer (Option Best)). a) (Ok (Value best))

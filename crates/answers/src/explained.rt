@@ -3,7 +3,7 @@
 ghost use Rattle.std.specs.Prelude.{◌≡◌, ◌⊎◌, Err, IfErr, IfOk};
 ghost use Rattle.semver_base.specs.NormalText.{AreWritableRanges, IsWritableRange};
 ghost use Rattle.semver_base.specs.declared.range.VersionRange.{VersionRange};
-ghost use Rattle.answers.specs.Explained.{AreExplained, AreAlternatives, AreWholeTexts, IsExplained, IsExplainedPiece, IsMeaningOfRange};
+ghost use Rattle.answers.specs.Explained.{AreExplained, AreAlternatives, IsExplained, IsExplainedPiece, IsMeaningOfRange};
 ghost use Rattle.answers.specs.Asking.{IsFailureAt, OutOfMemory, fault_of};
 ghost use Rattle.answers.specs.Reading.{IsRangeAt};
 ghost use Rattle.answers.specs.declared.asking.Kind.TheVariants as kind;
@@ -125,26 +125,6 @@ fn pieces_of(
     Ok(pieces)
 }
 
-// The text as a piece for each of these ranges; the strict grammar parses a text to one.
-fn whole_of(
-    alloc: Global,
-    pre_release: PreRelease,
-    text: &str,
-    ranges: &[VersionRange],
-) -> Result<Vec<Piece>, AllocError>
-    requires { AreWritableRanges ranges.now }
-    ensures { IfOk result
-        (λ pieces. AreWholeTexts pre_release text.now ranges.now pieces.items) }
-{
-    let mut pieces = Vec::new(alloc);
-    for range in ranges {
-        let meaning = Meaning::of(alloc, pre_release, range.copy()?)?;
-        let text = String::from_str(alloc, text)?;
-        pieces.push(Piece { text, meaning })?;
-    }
-    Ok(pieces)
-}
-
 // The alternatives of a text of ranges.
 fn alternatives(
     alloc: Global,
@@ -160,7 +140,16 @@ fn alternatives(
     match flavour {
         Flavour::Npm => pieces_of(alloc, flavour, pre_release, text.trim()),
         Flavour::Normal => pieces_of(alloc, flavour, pre_release, text),
-        Flavour::Specifier => whole_of(alloc, pre_release, text, ranges),
+        // The strict grammar parses a text to one range.
+        Flavour::Specifier => {
+            let mut pieces = Vec::new(alloc);
+            for range in ranges {
+                let meaning = Meaning::of(alloc, pre_release, range.copy()?)?;
+                let text = String::from_str(alloc, text)?;
+                pieces.push(Piece { text, meaning })?;
+            }
+            Ok(pieces)
+        }
     }
 }
 

@@ -4,10 +4,8 @@ ghost use Rattle.std.specs.Prelude.{◌≡◌, ◌&&◌, IfErr, IfOk, None};
 ghost use Rattle.semver_req.specs.Requirement.{inner_means_with, tag_of};
 ghost use Rattle.semver_req.specs.TextRejection.{IsTextRejection};
 ghost use Rattle.semver_req.specs.Resolve.{IsBestMatch, IsOnlyMatch};
-ghost use Rattle.semver_req.specs.ResolveSteps.{exceeds, known_of};
 ghost use Rattle.answers.specs.Asking.{IsAnswer, IsFailureAt};
-ghost use Rattle.answers.specs.Filtering.{Filter, FilterOf, IsLine, VersionLines, better_line, line_answer, line_passes, list_answer, list_matches};
-ghost use Rattle.answers.specs.Questions.{better};
+ghost use Rattle.answers.specs.Filtering.{Filter, IsLine, VersionLines, better_line, line_answer, line_passes, list_answer, list_matches};
 ghost use Rattle.answers.specs.Reading.{texts_of};
 ghost use Rattle.answers.specs.declared.asking.Kind.TheVariants as kind;
 ghost use Rattle.answers.specs.declared.asking.Problem.TheVariants as problem;
@@ -47,31 +45,6 @@ fn line_answer(pre_release: PreRelease, range: &VersionReq, line: &Option<Versio
     }
 }
 
-// Whether the version of each text matches the range.
-fn filter_of(
-    alloc: Global,
-    pre_release: PreRelease,
-    range: &VersionReq,
-    texts: &[&str],
-) -> Result<Answer<Vec<Option<bool>>>, Problem>
-    ensures answer { IsAnswer (FilterOf pre_release range.now.inner (texts_of texts.now))
-        (λ answer. list_answer (λ list. list.items) answer) result }
-    ensures problem { IfErr result (λ p. p ≡ problem.OutOfMemory) }
-{
-    if let Some(tag) = range.tag() {
-        return Ok(Answer::Tag(PackageTag::from_str(alloc, tag)?));
-    }
-    let mut answers = Vec::new(alloc);
-    for text in texts {
-        let line = version_line(alloc, answers.len(), text)?;
-        let answer = line_answer(pre_release, range, &line);
-        if answers.push(answer).is_err() {
-            return Err(Problem::OutOfMemory);
-        }
-    }
-    Ok(Answer::Value(answers))
-}
-
 /// Which of the versions match the range? Of each text the answer is whether its version matches, or none if it isn't a
 /// version.
 pub fn filter(
@@ -88,7 +61,18 @@ pub fn filter(
         (IsFailureAt kind.Range 0 (IsTextRejection flavour range_text.now)) }
 {
     let range = range(alloc, flavour, 0, range_text)?;
-    filter_of(alloc, pre_release, &range, version_texts)
+    if let Some(tag) = range.tag() {
+        return Ok(Answer::Tag(PackageTag::from_str(alloc, tag)?));
+    }
+    let mut answers = Vec::new(alloc);
+    for text in version_texts {
+        let line = version_line(alloc, answers.len(), text)?;
+        let answer = line_answer(pre_release, &range, &line);
+        if answers.push(answer).is_err() {
+            return Err(Problem::OutOfMemory);
+        }
+    }
+    Ok(Answer::Value(answers))
 }
 
 /// Parses several versions, which can then be asked of by many ranges; none for a text that isn't a version. Fails only out of
@@ -127,25 +111,6 @@ pub fn list_matches(
     Ok(Answer::Value(answers))
 }
 
-// Whether the version matches the range, which isn't a tag, and is better than the best match so far, if any.
-fn is_better(
-    end: End,
-    pre_release: PreRelease,
-    range: &VersionReq,
-    version: &Version,
-    known: Option<(usize, &Version)>,
-) -> bool
-    requires { tag_of range.now.inner ≡ None }
-    ensures { result ≡ (inner_means_with pre_release range.now.inner version.now
-        && exceeds (better end) version.now (known_of known.entry)) }
-{
-    range.matches_with(version, pre_release)
-        && match known {
-            None => true,
-            Some((_, known)) => end.is_better(version, known),
-        }
-}
-
 /// Which of the versions that were parsed is at this end of those that match the range, which isn't a tag? Returns its place; of
 /// versions equal but for builds, the first.
 pub fn list_best(
@@ -161,10 +126,15 @@ pub fn list_best(
         (line_passes (λ v. inner_means_with pre_release range.now.inner v)) lines.now result }
 {
     one_walk_finds_the_best::<Option<Version>>();
-    let mut best = None;
+    let mut best: Option<(usize, &Version)> = None;
     for (place, line) in lines.iter().enumerate() {
         if let Some(version) = line {
-            if is_better(end, pre_release, range, version, best) {
+            let is_better = range.matches_with(version, pre_release)
+                && match best {
+                    None => true,
+                    Some((_, known)) => end.is_better(version, known),
+                };
+            if is_better {
                 best = Some((place, version));
             }
         }

@@ -10,19 +10,17 @@ ghost use Rattle.std.specs.Fmt.{decimal};
 ghost use Rattle.std.specs.Str.{trim};
 ghost use Rattle.answers.specs.Asking.{IsAnswer, IsFailureAt};
 ghost use Rattle.answers.specs.Filtering.{list_answer};
-ghost use Rattle.answers.specs.Parts.{RangeParts, VersionParts, bound_json, is_inclusive, range_json, ranges_answer, ranges_json, texts_json, version_json};
+ghost use Rattle.answers.specs.Parts.{RangeParts, VersionParts, bound_json, range_json, ranges_json, texts_json, version_json};
 ghost use Rattle.answers.specs.declared.asking.Kind.TheVariants as kind;
 
 use crate::asking::{Answer, Problem};
 use crate::object::{Object, json_text, text_json};
 use crate::questions::text_of_version;
 use crate::reading::{range, version};
-use semver_base::failure::ParseFailure;
 use semver_base::range::{RangeBound, VersionBoundKind, VersionRange};
 use semver_base::version::{Version, VersionPreOrBuild};
 use semver_req::common::values::Flavour;
 use semver_req::range_set_or_tag::{PackageTag, RangeSetOrTag};
-use semver_req::req::VersionReq;
 use serde_json::Value;
 use std::alloc::{AllocError, Global};
 
@@ -74,16 +72,6 @@ pub fn version_parts(alloc: Global, version_text: &str) -> Result<String, Proble
     Ok(json_text(alloc, version_json(alloc, &version))?)
 }
 
-// Whether the version itself lies within the bound.
-fn is_inclusive(kind: VersionBoundKind) -> bool
-    ensures { result ≡ is_inclusive kind }
-{
-    match kind {
-        VersionBoundKind::Inclusive => true,
-        VersionBoundKind::Exclusive => false,
-    }
-}
-
 /// Returns a bound as JSON: its version as displayed, and whether that lies within it; null, if there is no bound.
 pub fn bound_json(alloc: Global, bound: &RangeBound) -> Result<Value, AllocError>
     ensures { IfOk result (λ json. view json ≡ bound_json bound.now) }
@@ -91,7 +79,10 @@ pub fn bound_json(alloc: Global, bound: &RangeBound) -> Result<Value, AllocError
     match bound {
         RangeBound::Unbounded => Ok(Value::Null),
         RangeBound::Version(bound) => Object::new(alloc)
-            .put("inclusive", Ok(Value::from(is_inclusive(bound.kind))))
+            .put(
+                "inclusive",
+                Ok(Value::from(bound.kind == VersionBoundKind::Inclusive)),
+            )
             .put("version", displayed_json(alloc, &bound.version))
             .into_json(),
     }
@@ -118,20 +109,6 @@ fn ranges_json(alloc: Global, ranges: &[VersionRange]) -> Result<Value, AllocErr
     Ok(Value::Array(items))
 }
 
-// The ranges of a requirement as a text, or the tag.
-fn ranges_of(alloc: Global, range: &VersionReq) -> Result<Answer<String>, AllocError>
-    ensures { IfOk result (λ answer. list_answer (λ text. string_bytes text) answer
-        ≡ ranges_answer range.now.inner) }
-{
-    match range.inner() {
-        RangeSetOrTag::Tag(tag) => Ok(Answer::Tag(PackageTag::from_str(alloc, tag.as_str())?)),
-        RangeSetOrTag::RangeSet(set) => {
-            let json = ranges_json(alloc, set.0.iter().as_slice());
-            Ok(Answer::Value(json_text(alloc, json)?))
-        }
-    }
-}
-
 /// Parses a range, and returns its ranges in the order in which they stand, as the text of a JSON array of their bounds.
 pub fn range_parts(
     alloc: Global,
@@ -144,5 +121,11 @@ pub fn range_parts(
         (IsFailureAt kind.Range 0 (IsTextRejection flavour range_text.now)) }
 {
     let range = range(alloc, flavour, 0, range_text)?;
-    Ok(ranges_of(alloc, &range)?)
+    match range.inner() {
+        RangeSetOrTag::Tag(tag) => Ok(Answer::Tag(PackageTag::from_str(alloc, tag.as_str())?)),
+        RangeSetOrTag::RangeSet(set) => {
+            let json = ranges_json(alloc, set.0.iter().as_slice());
+            Ok(Answer::Value(json_text(alloc, json)?))
+        }
+    }
 }

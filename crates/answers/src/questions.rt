@@ -8,13 +8,13 @@ ghost use Rattle.std.specs.Option.{option_copied};
 ghost use Rattle.std.specs.Str.{trim};
 ghost use Rattle.semver_base.specs.VersionGrammar.{IsVersionRejection};
 ghost use Rattle.semver_base.specs.VersionText.{version_text};
-ghost use Rattle.semver_req.specs.Parsers.{AreReadOrTags, IsReadOrTag};
+ghost use Rattle.semver_req.specs.Parsers.{IsReadOrTag};
 ghost use Rattle.semver_req.specs.Requirement.{inner_means_with, tag_of};
 ghost use Rattle.semver_req.specs.TextRejection.{IsTextRejection};
 ghost use Rattle.semver_req.specs.Resolve.{IsBestMatch, IsOnlyMatch};
 ghost use Rattle.answers.specs.Asking.{IsAnswer, IsFailureAt};
 ghost use Rattle.answers.specs.declared.asking.Kind.TheVariants as kind;
-ghost use Rattle.answers.specs.Questions.{BestMatch, BestOf, Canonical, Common, CommonOf, Displayed, Equivalent, EquivalentOf, Matches, Orders, Outside, OutsideOf, Overlaps, better, first_tag, match_of};
+ghost use Rattle.answers.specs.Questions.{BestMatch, Canonical, Common, Displayed, Equivalent, EquivalentOf, Matches, Orders, Outside, Overlaps, better, first_tag, match_of};
 ghost use Rattle.answers.specs.Reading.{IsFailureAmong, texts_of};
 
 use crate::asking::{Answer, Problem};
@@ -119,29 +119,6 @@ fn place_of_best(
     }
 }
 
-// The version at this end of the order that matches the range.
-fn best_of(
-    alloc: Global,
-    end: End,
-    pre_release: PreRelease,
-    range: &VersionReq,
-    mut versions: Vec<Version>,
-) -> Result<Answer<Option<Best>>, Problem>
-    ensures { IsAnswer (BestOf end pre_release range.now.inner versions.items)
-        (λ answer. answer) result }
-{
-    if let Some(tag) = range.tag() {
-        return Ok(Answer::Tag(PackageTag::from_str(alloc, tag)?));
-    }
-    match place_of_best(end, pre_release, range, versions.as_slice()) {
-        Some(place) => {
-            let version = versions.remove(place);
-            Ok(Answer::Value(Some(Best { place, version })))
-        }
-        None => Ok(Answer::Value(None)),
-    }
-}
-
 /// Which of the versions is the highest or lowest that matches the range? Of those that differ only in the build, the first.
 pub fn best_match(
     alloc: Global,
@@ -160,8 +137,17 @@ pub fn best_match(
         (texts_of version_texts.now) p) }
 {
     let range = range(alloc, flavour, 0, range_text)?;
-    let versions = versions(alloc, version_texts)?;
-    best_of(alloc, end, pre_release, &range, versions)
+    let mut versions = versions(alloc, version_texts)?;
+    if let Some(tag) = range.tag() {
+        return Ok(Answer::Tag(PackageTag::from_str(alloc, tag)?));
+    }
+    match place_of_best(end, pre_release, &range, versions.as_slice()) {
+        Some(place) => {
+            let version = versions.remove(place);
+            Ok(Answer::Value(Some(Best { place, version })))
+        }
+        None => Ok(Answer::Value(None)),
+    }
 }
 
 /// Do the two ranges overlap, by their bounds? Two tags overlap if they are the same, a tag and versions never.
@@ -182,25 +168,6 @@ pub fn overlaps(
     Ok(one.intersects(&other))
 }
 
-// The lowest version that all ranges match.
-fn common_of(
-    alloc: Global,
-    pre_release: PreRelease,
-    ranges: &[VersionReq],
-) -> Result<Answer<Option<Version>>, Problem>
-    requires { AreReadOrTags ranges.now }
-    ensures { IsAnswer (CommonOf pre_release ranges.now) (λ answer. answer) result }
-{
-    if let Some(tag) = first_tag(ranges) {
-        return Ok(Answer::Tag(PackageTag::from_str(alloc, tag)?));
-    }
-    let Some((first, others)) = ranges.split_first() else {
-        return Ok(Answer::Value(None));
-    };
-    let lowest = first.common_version_of_all(alloc, others, pre_release)?;
-    Ok(Answer::Value(lowest))
-}
-
 /// What is the lowest version that all ranges match? For no ranges there is none.
 pub fn common_version(
     alloc: Global,
@@ -214,24 +181,13 @@ pub fn common_version(
         (IsFailureAmong kind.Range (IsTextRejection flavour) (texts_of texts.now)) }
 {
     let ranges = ranges(alloc, flavour, texts)?;
-    common_of(alloc, pre_release, ranges.as_slice())
-}
-
-// The lowest version that one range matches and the other doesn't.
-fn outside_of(
-    alloc: Global,
-    pre_release: PreRelease,
-    one: &VersionReq,
-    other: &VersionReq,
-) -> Result<Answer<Option<Version>>, Problem>
-    requires one_read { IsReadOrTag one.now.inner }
-    requires other_read { IsReadOrTag other.now.inner }
-    ensures { IsAnswer (OutsideOf pre_release one.now other.now) (λ answer. answer) result }
-{
-    if let Some(tag) = one.tag().or(other.tag()) {
+    if let Some(tag) = first_tag(ranges.as_slice()) {
         return Ok(Answer::Tag(PackageTag::from_str(alloc, tag)?));
     }
-    let lowest = one.version_outside(alloc, other, pre_release)?;
+    let Some((first, others)) = ranges.split_first() else {
+        return Ok(Answer::Value(None));
+    };
+    let lowest = first.common_version_of_all(alloc, others, pre_release)?;
     Ok(Answer::Value(lowest))
 }
 
@@ -252,7 +208,11 @@ pub fn version_outside(
 {
     let one = range(alloc, flavour, 0, one_text)?;
     let other = range(alloc, flavour, 1, other_text)?;
-    outside_of(alloc, pre_release, &one, &other)
+    if let Some(tag) = one.tag().or(other.tag()) {
+        return Ok(Answer::Tag(PackageTag::from_str(alloc, tag)?));
+    }
+    let lowest = one.version_outside(alloc, &other, pre_release)?;
+    Ok(Answer::Value(lowest))
 }
 
 // Whether the two ranges match the same versions.

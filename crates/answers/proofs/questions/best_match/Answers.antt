@@ -1,5 +1,12 @@
+use Rattle.std.proofs.Common.{◌∙◌, None, Ok, Some, sym, ap, option_copied, rules}
 use Rattle.std.proofs.lemmas.Result.{err_from_is_err_and}
 use Rattle.answers.specs.AskingLaws.{by_value, by_fault}
+use Rattle.semver_base.specs.declared.version.Version.{Version}
+use Rattle.semver_req.specs.Requirement.{inner_means_with}
+use Rattle.answers.specs.Asking.{IsAnswer}
+use Rattle.answers.specs.Questions.{BestOf}
+use Rattle.answers.specs.declared.asking.Answer.TheVariants.{Tag}
+use Rattle.answers.proofs.BestMatches.{best_answer, none_best, only_best, taken_best}
 use Rattle.answers.proofs.questions.best_match.Goals as goal
 
 pub returns-in_err-range-clause-answer : goal.returns-in_err-range-clause-answer
@@ -12,5 +19,30 @@ returns-in_err-versions-clause-answer c =
     let p = err_from_is_err_and c.from_residual-in_err-versions.result c.from_residual-in_err-versions.ensures.1 in
     rw (p.1, p.2) (by_value _ _ _ _ c.in_ok-range.ensures.answer _ (by_fault _ _ _ _ c.in_err-versions.ensures.answer))
 
+pub returns-in-Some-clause-answer : goal.returns-in-Some-clause-answer
+returns-in-Some-clause-answer c =
+    let tag : IsAnswer (BestOf c.args.end c.args.pre_release c.in_ok-range.range.inner c.in_ok-versions.versions.items) (λ answer. answer) (Ok (Tag c.in_ok-from_str.field-0)) = search rules in
+    by_value _ _ _ _ c.in_ok-range.ensures.answer _ (by_value _ _ _ _ c.in_ok-versions.ensures.answer _ tag)
+
+pub returns-in-Some-place_of_best-clause-answer : goal.returns-in-Some-place_of_best-clause-answer
+returns-in-Some-place_of_best-clause-answer c =
+    let end = c.args.end in
+    let read = c.in_ok-range.range.inner in
+    let test = λ (v : Version). inner_means_with c.args.pre_release read v in
+    let place = c.in-Some-place_of_best.place in
+    let items = c.in_ok-versions.versions.items in
+    let found = c.in-Some-place_of_best.ensures in
+    let best = best_answer end c.args.pre_release read items (sym c.tag.ensures ∙ ap option_copied c.in_default.is) (Some (record { place = place; version = c.remove-version.result }))
+    (taken_best end test items place c.remove-version.result c.remove-version.ensures.value (rw c.as_slice.ensures.value at found.best))
+    (only_best end test items place c.remove-version.result c.remove-version.ensures.value (rw c.as_slice.ensures.value at found.only)) in
+    by_value _ _ _ _ c.in_ok-range.ensures.answer _ (by_value _ _ _ _ c.in_ok-versions.ensures.answer _ best)
+
 pub returns-clause-answer : goal.returns-clause-answer
-returns-clause-answer c = by_value _ _ _ _ c.in_ok-range.ensures.answer _ (by_value _ _ _ _ c.in_ok-versions.ensures.answer _ (c.best_of.ensures))
+returns-clause-answer c =
+    let end = c.args.end in
+    let read = c.in_ok-range.range.inner in
+    let test = λ (v : Version). inner_means_with c.args.pre_release read v in
+    let items = c.in_ok-versions.versions.items in
+    let found = c.in-None.ensures in
+    let nothing = best_answer end c.args.pre_release read items (sym c.tag.ensures ∙ ap option_copied c.in_default.is) None (rw c.as_slice.ensures.value at found.best) (none_best end test items (rw c.as_slice.ensures.value at found.only)) in
+    by_value _ _ _ _ c.in_ok-range.ensures.answer _ (by_value _ _ _ _ c.in_ok-versions.ensures.answer _ nothing)

@@ -1,4 +1,8 @@
+use Rattle.std.proofs.Common.{rules, Ok}
 use Rattle.std.proofs.lemmas.Result.{err_from_is_err_and}
+use Rattle.answers.specs.Asking.{IsAnswer}
+use Rattle.answers.specs.Questions.{OutsideOf}
+use Rattle.answers.specs.declared.asking.Answer.TheVariants.{Tag, Value}
 use Rattle.answers.specs.AskingLaws.{by_value, by_fault}
 use Rattle.answers.proofs.questions.version_outside.Goals as goal
 
@@ -12,5 +16,12 @@ returns-in_err-other-clause-answer c =
     let p = err_from_is_err_and c.from_residual-in_err-other.result c.from_residual-in_err-other.ensures.1 in
     rw (p.1, p.2) (by_value _ _ _ _ c.in_ok-one.ensures.answer _ (by_fault _ _ _ _ c.in_err-other.ensures.answer))
 
+pub returns-in-Some-clause-answer : goal.returns-in-Some-clause-answer
+returns-in-Some-clause-answer c =
+    let tag : IsAnswer (OutsideOf c.args.pre_release c.in_ok-one.one c.in_ok-other.other) (λ answer. answer) (Ok (Tag c.in_ok-from_str.field-0)) = search rules in
+    by_value _ _ _ _ c.in_ok-one.ensures.answer _ (by_value _ _ _ _ c.in_ok-other.ensures.answer _ tag)
+
 pub returns-clause-answer : goal.returns-clause-answer
-returns-clause-answer c = by_value _ _ _ _ c.in_ok-one.ensures.answer _ (by_value _ _ _ _ c.in_ok-other.ensures.answer _ (c.outside_of.ensures))
+returns-clause-answer c =
+    let value : IsAnswer (OutsideOf c.args.pre_release c.in_ok-one.one c.in_ok-other.other) (λ answer. answer) (Ok (Value c.in_ok-lowest.lowest)) = search rules in
+    by_value _ _ _ _ c.in_ok-one.ensures.answer _ (by_value _ _ _ _ c.in_ok-other.ensures.answer _ value)
