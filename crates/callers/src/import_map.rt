@@ -45,28 +45,6 @@ fn named(
     })
 }
 
-fn jsr_import(
-    alloc: Global,
-    reference: &JsrPackageReqReference,
-    version: &Version,
-) -> Result<Import, AllocError>
-    ensures { IfOk result (IsImport reference.now version.now) }
-{
-    let export = reference.export_name(alloc)?;
-    named(alloc, reference.req(), export, version)
-}
-
-fn npm_import(
-    alloc: Global,
-    reference: &NpmPackageReqReference,
-    version: &Version,
-) -> Result<Import, AllocError>
-    ensures { IfOk result (IsImport reference.now version.now) }
-{
-    let export = normalized_export_name(alloc, reference.sub_path())?;
-    named(alloc, reference.req(), export, version)
-}
-
 /// What does this `jsr:` specifier name, and does it allow the version?
 ///
 /// Fails with what is wrong with the text, or out of memory.
@@ -85,7 +63,10 @@ pub fn imported_from_jsr(
         Ok(reference) => reference,
         Err(error) => return Err(error),
     };
-    match jsr_import(alloc, &reference, version) {
+    let Ok(export) = reference.export_name(alloc) else {
+        return Err(PackageReqReferenceParseError::Memory);
+    };
+    match named(alloc, reference.req(), export, version) {
         Ok(import) => Ok(import),
         Err(_) => Err(PackageReqReferenceParseError::Memory),
     }
@@ -107,7 +88,10 @@ pub fn imported_from_npm(
         Ok(reference) => reference,
         Err(error) => return Err(error),
     };
-    match npm_import(alloc, &reference, version) {
+    let Ok(export) = normalized_export_name(alloc, reference.sub_path()) else {
+        return Err(PackageReqReferenceParseError::Memory);
+    };
+    match named(alloc, reference.req(), export, version) {
         Ok(import) => Ok(import),
         Err(_) => Err(PackageReqReferenceParseError::Memory),
     }

@@ -4,7 +4,7 @@ ghost use Rattle.std.specs.Prelude.{◌≡◌, IfErr};
 ghost use Rattle.std.specs.Str.{trim};
 ghost use Rattle.semver_req.specs.PieceReading.{IsCutRejection};
 ghost use Rattle.semver_req.specs.declared.common.values.Flavour.TheVariants.{Npm};
-ghost use Rattle.callers.specs.Allowance.{IsAllowance, allowance_of, yes_or_no};
+ghost use Rattle.callers.specs.Allowance.{IsAllowance, allowance_of};
 
 use deno_semver::npm::NpmVersionReqParseError;
 use deno_semver::{Version, VersionReq};
@@ -19,23 +19,14 @@ pub enum Allowance {
     Tag,
 }
 
-fn yes_or_no(is_allowed: bool) -> Allowance
-    ensures { result ≡ yes_or_no is_allowed }
-{
-    if is_allowed {
-        Allowance::Yes
-    } else {
-        Allowance::No
-    }
-}
-
 /// Is the version allowed by this requirement?
 pub fn allowance_by(requirement: &VersionReq, version: &Version) -> Allowance
     ensures { result ≡ allowance_of requirement.now.inner version.now }
 {
     match requirement.tag() {
         Some(_) => Allowance::Tag,
-        None => yes_or_no(requirement.matches(version)),
+        None if requirement.matches(version) => Allowance::Yes,
+        None => Allowance::No,
     }
 }
 

@@ -6,7 +6,7 @@ ghost use Rattle.serde_json.specs.View.{view};
 ghost use Rattle.deno_semver.specs.PackageOutcome.{PackageFault, IsPackageOutcome};
 ghost use Rattle.deno_semver.specs.ReferenceOutcome.{ReferenceFault, unboxed};
 ghost use Rattle.deno_semver.specs.declared.package.values.PackageReq.{PackageReq};
-ghost use Rattle.package_answers.specs.Faults.{IsFaultText, IsPackageFault, IsReferenceFault, fault_json, parts_kind, reference_kind, suggestion};
+ghost use Rattle.package_answers.specs.Faults.{IsFaultText, IsPackageFault, IsReferenceFault, fault_json, parts_kind, suggestion};
 ghost use Rattle.package_answers.specs.References.{IsRegistryOutcome};
 ghost use Rattle.package_answers.specs.declared.references.Reference.{Reference};
 
@@ -31,18 +31,6 @@ fn parts_kind(error: &PackageReqPartsParseError) -> &'static str
         PackageReqPartsParseError::NpmVersionReq(_) => "NpmVersionReq",
         PackageReqPartsParseError::NormalizedVersionReq(_) => "NormalizedVersionReq",
         PackageReqPartsParseError::Memory => "Memory",
-    }
-}
-
-// The kind of a reference's error.
-fn reference_kind(error: &PackageReqReferenceParseError) -> &'static str
-    ensures { result.now ≡ reference_kind (unboxed error.now) }
-{
-    match error {
-        PackageReqReferenceParseError::NotExpectedScheme(_) => "NotExpectedScheme",
-        PackageReqReferenceParseError::Invalid(error) => parts_kind(&error.source),
-        PackageReqReferenceParseError::InvalidPathWithVersion(_) => "InvalidPathWithVersion",
-        PackageReqReferenceParseError::Memory => "Memory",
     }
 }
 
@@ -139,7 +127,13 @@ pub fn reference_fault(alloc: Global, text: &str) -> Result<Option<String>, Allo
         Err(error) => {
             let failure = reference_failure(alloc, &error);
             let suggested = suggestion(alloc, &error)?;
-            let kind = reference_kind(&error);
+            let kind = match &error {
+                PackageReqReferenceParseError::NotExpectedScheme(_) => "NotExpectedScheme",
+                PackageReqReferenceParseError::Invalid(error) => parts_kind(&error.source),
+                PackageReqReferenceParseError::InvalidPathWithVersion(_) =>
+                    "InvalidPathWithVersion",
+                PackageReqReferenceParseError::Memory => "Memory",
+            };
             Ok(Some(fault_text(alloc, kind, &failure, suggested.as_deref())?))
         }
     }

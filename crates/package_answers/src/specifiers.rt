@@ -5,7 +5,6 @@ ghost use Rattle.std.specs.Prelude.{◌≡◌, ◌⊎◌, IfErr, IfOk, None, Ok,
 ghost use Rattle.std.specs.Option.{option_copied};
 ghost use Rattle.serde_json.specs.View.{view};
 ghost use Rattle.semver_base.specs.declared.failure.Rejection.{Rejection};
-ghost use Rattle.deno_semver.specs.DependencyOutcome.{DependencyFault, IsDependencyAnswer, IsDependencyOutcome, IsDependencyRejection};
 ghost use Rattle.deno_semver.specs.NvReference.{IsNvReferenceAnswer, IsNvReferenceOutcome, IsNvReferenceRejection};
 ghost use Rattle.deno_semver.specs.declared.jsr.dependency.JsrDepPackageReq.{JsrDepPackageReq};
 ghost use Rattle.deno_semver.specs.declared.package.nv_reference.PackageNvReference.{PackageNvReference};
@@ -25,25 +24,6 @@ use deno_semver::package::{PackageKind, PackageNvReference, PackageNvReferencePa
 use semver_req::common::values::Flavour;
 use serde_json::Value;
 use std::alloc::{AllocError, Global};
-
-// Parses a dependency.
-fn parse_dependency(
-    alloc: Global,
-    flavour: Flavour,
-    text: &str,
-) -> Result<JsrDepPackageReq, JsrDepPackageReqParseError>
-    ensures read { IfOk result (λ d. IsDependencyOutcome flavour text.now (Ok d)) }
-    ensures rejected { IfErr result (IsDependencyRejection flavour text.now) }
-    ensures answer { (outcome : Result JsrDepPackageReq DependencyFault)
-        → IsDependencyOutcome flavour text.now outcome
-        → IsDependencyAnswer flavour text.now outcome result }
-{
-    match flavour {
-        Flavour::Npm => JsrDepPackageReq::from_str_loose(alloc, text),
-        Flavour::Normal => JsrDepPackageReq::from_str_normalized(alloc, text),
-        Flavour::Specifier => JsrDepPackageReq::from_str(alloc, text),
-    }
-}
 
 // What is wrong with the text of a dependency.
 fn dependency_failure(alloc: Global, error: JsrDepPackageReqParseError) -> ParseFailure
@@ -77,7 +57,12 @@ pub fn dependency_parts(alloc: Global, flavour: Flavour, text: &str) -> Result<S
     ensures failure { IfErr result
         (IsFailureAt kind.Reference 0 (IsDependencyFailure flavour text.now)) }
 {
-    let dependency = match parse_dependency(alloc, flavour, text) {
+    let parsed = match flavour {
+        Flavour::Npm => JsrDepPackageReq::from_str_loose(alloc, text),
+        Flavour::Normal => JsrDepPackageReq::from_str_normalized(alloc, text),
+        Flavour::Specifier => JsrDepPackageReq::from_str(alloc, text),
+    };
+    let dependency = match parsed {
         Ok(dependency) => dependency,
         Err(error) => {
             let failure = dependency_failure(alloc, error);

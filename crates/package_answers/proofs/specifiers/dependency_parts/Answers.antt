@@ -1,5 +1,5 @@
-use Rattle.std.proofs.Common.{◌≡◌, Ok, Err, None, ap, rules}
-use Rattle.deno_semver.specs.DependencyOutcome.{DependencyFault, IsDependencyOutcome}
+use Rattle.std.proofs.Common.{◌≡◌, Result, Ok, Err, None, ap, rules}
+use Rattle.deno_semver.specs.DependencyOutcome.{DependencyFault, IsDependencyAnswer, IsDependencyOutcome, IsDependencyRejection}
 use Rattle.deno_semver.specs.declared.jsr.dependency.JsrDepPackageReq.{JsrDepPackageReq}
 use Rattle.deno_semver.specs.declared.jsr.dependency.JsrDepPackageReqParseError.TheVariants as error
 use Rattle.answers.specs.declared.asking.Kind.TheVariants as kinds
@@ -13,9 +13,13 @@ pub returns-in-Err-clause-answer : goal.returns-in-Err-clause-answer
 returns-in-Err-clause-answer c =
     let failure = c.dependency_failure-failure.result in
     let none : c.in-Err.error ≡ error.Memory → failure ≡ None = λ m. none_shown failure (dependency_failure c.in-Err.error) c.dependency_failure-failure.ensures (ap dependency_failure m) in
-    rw c.of.ensures (by_fault _ _ _ _ (was_not_parsed kinds.Reference 0 (IsDependencyOutcome c.args.flavour c.args.text.now) failure (by_rejection (IsDependencyOutcome c.args.flavour c.args.text.now) failure none c.in-Err.ensures.rejected) (λ (d : JsrDepPackageReq) o. none (c.in-Err.ensures.answer (Ok d) o))))
+    let rejected : IsDependencyRejection c.args.flavour c.args.text.now c.in-Err.error = search rules in
+    let answer : (outcome : Result JsrDepPackageReq DependencyFault) → IsDependencyOutcome c.args.flavour c.args.text.now outcome → IsDependencyAnswer c.args.flavour c.args.text.now outcome (Err c.in-Err.error) = search rules in
+    rw c.of.ensures (by_fault _ _ _ _ (was_not_parsed kinds.Reference 0 (IsDependencyOutcome c.args.flavour c.args.text.now) failure (by_rejection (IsDependencyOutcome c.args.flavour c.args.text.now) failure none rejected) (λ (d : JsrDepPackageReq) o. none (answer (Ok d) o))))
 
 pub returns-clause-answer : goal.returns-clause-answer
 returns-clause-answer c =
-    let parsed = was_parsed kinds.Reference 0 (IsDependencyOutcome c.args.flavour c.args.text.now) c.in-Ok.dependency c.in-Ok.ensures.read (λ (d : JsrDepPackageReq) o. c.in-Ok.ensures.answer (Ok d) o) (λ (fault : DependencyFault) o. c.in-Ok.ensures.answer (Err fault) o) in
+    let read : IsDependencyOutcome c.args.flavour c.args.text.now (Ok c.in-Ok.dependency) = search rules in
+    let answer : (outcome : Result JsrDepPackageReq DependencyFault) → IsDependencyOutcome c.args.flavour c.args.text.now outcome → IsDependencyAnswer c.args.flavour c.args.text.now outcome (Ok c.in-Ok.dependency) = search rules in
+    let parsed = was_parsed kinds.Reference 0 (IsDependencyOutcome c.args.flavour c.args.text.now) c.in-Ok.dependency read (λ (d : JsrDepPackageReq) o. answer (Ok d) o) (λ (fault : DependencyFault) o. answer (Err fault) o) in
     by_value _ _ _ _ parsed _ (answered _ _ _ (c.in_ok-json_text.ensures (dependency_json c.in-Ok.dependency) (search rules) c.dependency_json.ensures))
