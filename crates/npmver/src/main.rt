@@ -17,11 +17,11 @@ ghost use Rattle.answers.specs.Asking as fault;
 ghost use Rattle.answers.specs.declared.asking.Kind.TheVariants as kind;
 ghost use Rattle.answers.specs.declared.asking.Problem.TheVariants as unanswered;
 ghost use Rattle.npmver.specs.Question.{IsPrinted, IsAsked, IsParser, IsStatus, NoParser, matching_command};
-ghost use Rattle.npmver.specs.Reported.{status_of, reported_answer, reported_best, reported_match, reported_problem, reported_whether};
+ghost use Rattle.npmver.specs.Reported.{status_of, reported_answer, reported_problem, reported_whether};
 ghost use Rattle.npmver.specs.declared.Problem.TheVariants as problem;
 
 use answers::asking::{Answer, Problem as Unanswered};
-use answers::questions::{Best, End, best_match, canonical, matches, overlaps, text_of_version};
+use answers::questions::{End, best_match, canonical, matches, overlaps, text_of_version};
 use semver_base::range::PreRelease;
 use semver_req::common::values::Flavour;
 use semver_req::range_set_or_tag::PackageTag;
@@ -70,25 +70,6 @@ impl Line {
         ensures { reported_answer result ≡ reported_whether holds }
     {
         if holds { Line::Yes } else { Line::No }
-    }
-
-    fn of_match(answer: Answer<bool>) -> Line
-        ensures { reported_answer result ≡ reported_match answer }
-    {
-        match answer {
-            Answer::Value(matches) => Line::whether(matches),
-            Answer::Tag(tag) => Line::Tag(tag),
-        }
-    }
-
-    fn of_best(alloc: Global, answer: Answer<Option<Best>>) -> Result<Line, AllocError>
-        ensures { IfOk result (λ line. reported_answer line ≡ reported_best answer) }
-    {
-        match answer {
-            Answer::Value(Some(best)) => Ok(Line::Text(text_of_version(alloc, &best.version)?)),
-            Answer::Value(None) => Ok(Line::NoMatch),
-            Answer::Tag(tag) => Ok(Line::Tag(tag)),
-        }
     }
 }
 
@@ -173,7 +154,11 @@ fn fits(alloc: Global, arguments: &[String], pre_release: PreRelease) -> Result<
         requirement.as_str(),
         version.as_str(),
     )?;
-    Ok(Line::of_match(answer))
+    let line = match answer {
+        Answer::Value(matches) => Line::whether(matches),
+        Answer::Tag(tag) => Line::Tag(tag),
+    };
+    Ok(line)
 }
 
 // The texts as slices.
@@ -210,7 +195,12 @@ fn best(alloc: Global, arguments: &[String]) -> Result<Line, Problem>
         requirement.as_str(),
         versions.as_slice(),
     )?;
-    Ok(Line::of_best(alloc, answer)?)
+    let line = match answer {
+        Answer::Value(Some(best)) => Line::Text(text_of_version(alloc, &best.version)?),
+        Answer::Value(None) => Line::NoMatch,
+        Answer::Tag(tag) => Line::Tag(tag),
+    };
+    Ok(line)
 }
 
 // The canonical form of the requirement, by the grammar with this name.
@@ -269,14 +259,6 @@ fn report<E: Write>(err: &mut E, problem: &Problem) -> u8
     status
 }
 
-// Whether the arguments are `--help` alone.
-fn is_help(arguments: &[String]) -> bool {
-    match arguments {
-        [option] => option.as_str() == "--help",
-        _ => false,
-    }
-}
-
 // Prints the commands, and returns the status.
 fn help<O: Write>(out: &mut O) -> u8
     ensures { (result ≡ 6) ⊎ (result ≡ 0) }
@@ -300,8 +282,10 @@ fn main(rt: HostRuntime) -> ExitCode {
     let mut out = io::writer(&rt);
     let mut err = rt.stderr();
     let status = match arguments_after_name(&rt) {
-        Ok(arguments) if is_help(arguments.as_slice()) => help(&mut out),
-        Ok(arguments) => run(rt.alloc(), arguments.as_slice(), &mut out, &mut err),
+        Ok(arguments) => match arguments.as_slice() {
+            [option] if option.as_str() == "--help" => help(&mut out),
+            arguments => run(rt.alloc(), arguments, &mut out, &mut err),
+        },
         Err(e) if e.kind() == ErrorKind::OutOfMemory => {
             report(&mut err, &Problem::Unanswered(Unanswered::OutOfMemory))
         }

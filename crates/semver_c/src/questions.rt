@@ -13,7 +13,7 @@ ghost use Rattle.answers.specs.declared.sorting.Order.TheVariants as sorting;
 ghost use Rattle.semver_c.specs.Arguments.{IsCallAnswer, IsOneCallAnswer, pre_release_by};
 ghost use Rattle.semver_c.specs.Codes.{match_code};
 ghost use Rattle.semver_c.specs.Held.{IsListBest, list_lines};
-ghost use Rattle.semver_c.specs.Questions.{BestLine, CanonicalBy, CommonBy, CommonOfAll, DependencyBy, DisplayedOf, EquivalentBy, ErrorsBy, ExplainsBy, ExportNameOf, Filters, Fits, IsFaultOf, LowestBy, MatchesHeld, NameWithVersionOf, NumbersOf, OrdersOf, OutsideBy, OverlapsBy, PackageBy, PackageErrorsBy, PackageOf, RangeBy, RangesBy, ReferenceErrorsOf, ReferenceOf, SortsOf, TagBy, VersionErrorOf, VersionListOf, VersionOf, VersionPartsOf, VersionReferenceOf, WhyBy, version_numbers, whole_package};
+ghost use Rattle.semver_c.specs.Questions.{BestLine, CanonicalBy, CommonBy, CommonOfAll, DependencyBy, DisplayedOf, EquivalentBy, ErrorsBy, ExplainsBy, ExportNameOf, Filters, Fits, LowestBy, MatchesHeld, NameWithVersionOf, NumbersOf, OrdersOf, OutsideBy, OverlapsBy, PackageBy, PackageErrorsBy, PackageOf, RangeBy, RangesBy, ReferenceErrorsOf, ReferenceOf, SortsOf, TagBy, VersionErrorOf, VersionListOf, VersionOf, VersionPartsOf, VersionReferenceOf, WhyBy, whole_package};
 
 use crate::arguments::{Problem, Subject, flavour, line_list, pre_release, subject_of, text};
 use crate::codes::Code;
@@ -37,7 +37,6 @@ use package_answers::names::name_with_version_parts;
 use package_answers::packages::{package_errors_text, package_parts, read_package};
 use package_answers::references::{reference_errors_text, reference_parts};
 use package_answers::specifiers::{dependency_parts, version_reference_parts};
-use semver_req::common::values::Flavour;
 use std::alloc::{AllocError, Global};
 use std::borrow::CowStr;
 use std::cmp::Ordering;
@@ -311,22 +310,6 @@ pub fn package_of(alloc: Global, grammar: u32, bytes: &[u8]) -> Result<String, P
     Ok(package_parts(alloc, flavour, text)?)
 }
 
-// Why the text of the subject is invalid, if it is.
-fn fault_of(
-    alloc: Global,
-    subject: Subject,
-    flavour: Flavour,
-    text: &str,
-) -> Result<Option<String>, AllocError>
-    ensures { IfOk result
-        (λ answer. IsFaultOf subject flavour text.now (option_map string_bytes answer)) }
-{
-    match subject {
-        Subject::Package => package_fault(alloc, flavour, text),
-        Subject::Reference => reference_fault(alloc, text),
-    }
-}
-
 /// Why is the text of a package or a reference invalid?
 pub fn why_invalid(
     alloc: Global,
@@ -340,7 +323,11 @@ pub fn why_invalid(
     let subject = subject_of(what)?;
     let flavour = flavour(grammar)?;
     let text = text(bytes)?;
-    Ok(fault_of(alloc, subject, flavour, text)?)
+    let fault = match subject {
+        Subject::Package => package_fault(alloc, flavour, text),
+        Subject::Reference => reference_fault(alloc, text),
+    };
+    Ok(fault?)
 }
 
 /// What are the parts of the reference?
@@ -480,26 +467,18 @@ pub struct Numbers {
     pub is_unqualified: bool,
 }
 
-impl Numbers {
-    fn of(version: &Version) -> Numbers
-        ensures { result ≡ version_numbers version.now }
-    {
-        Numbers {
-            major: version.major,
-            minor: version.minor,
-            patch: version.patch,
-            is_unqualified: version.pre.is_empty() && version.build.is_empty(),
-        }
-    }
-}
-
 /// What are the numbers of the version?
 pub fn numbers_of(alloc: Global, bytes: &[u8]) -> Result<Numbers, Problem>
     ensures { IsCallAnswer (NumbersOf bytes.now) (λ numbers. numbers) result }
 {
     let text = text(bytes)?;
     let version = version(alloc, 0, text)?;
-    Ok(Numbers::of(&version))
+    Ok(Numbers {
+        major: version.major,
+        minor: version.minor,
+        patch: version.patch,
+        is_unqualified: version.pre.is_empty() && version.build.is_empty(),
+    })
 }
 
 /// Parses several versions, one per line, onto the heap.

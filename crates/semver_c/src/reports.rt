@@ -1,12 +1,11 @@
 //! How results are returned to C: a code, with a text or a list in the caller's buffer, or a place.
 
-ghost use Rattle.std.specs.Prelude.{◌≡◌, ◌⊎◌, IfOk, List, ℕ, map, string_bytes};
+ghost use Rattle.std.specs.Prelude.{◌≡◌, IfOk, map, string_bytes};
 ghost use Rattle.std.specs.Cow.{cow_str_bytes};
 ghost use Rattle.std.specs.Option.{option_map};
-ghost use Rattle.semver_base.specs.VersionText.{version_text};
 ghost use Rattle.answers.specs.Filtering.{list_answer};
 ghost use Rattle.semver_c.specs.Arguments.{call_fault, call_outcome, problem_message, problem_place};
-ghost use Rattle.semver_c.specs.Codes.{IsPlaced, IsReported, IsUntouched, IsUntouchedWithoutValue, always_yes, as_place, as_value, best_code, best_place, bool_code, code_of, fault_code, filter_code, filter_numbers, found_code, found_text, line_code, lowest_code, lowest_text, match_code, no_memory, no_text, number_of, order_code, place_after, text_code, text_of, three_numbers, unqualified_code};
+ghost use Rattle.semver_c.specs.Codes.{IsPlaced, IsReported, IsUntouched, IsUntouchedWithoutValue, always_yes, as_place, best_code, best_place, bool_code, code_of, fault_code, filter_code, filter_numbers, found_code, found_text, line_code, lowest_code, lowest_text, match_code, no_text, number_of, order_code, place_after, text_code, text_of, three_numbers, unqualified_code};
 
 use crate::arguments::Problem;
 use crate::codes::Code;
@@ -215,50 +214,6 @@ pub fn report_text_or_tag(
     }
 }
 
-// Reports the text of the version with this code.
-fn report_version(
-    alloc: Global,
-    version: &Version,
-    found: Code,
-    out: &mut [u8],
-    needed: &mut usize,
-) -> i32
-    ensures { (text : List ℕ) × IsPlaced text out.old out.new needed.new
-        × ((result ≡ no_memory) ⊎ ((result ≡ number_of found) × (text ≡ version_text version.now))) }
-{
-    match text_of_version(alloc, version) {
-        Ok(text) => {
-            put(text.as_str(), out, needed);
-            found.number()
-        }
-        Err(error) => report_problem(&Problem::from(error), out, needed),
-    }
-}
-
-// Reports the lowest version with one code, or that there is none with the other.
-fn report_found(
-    alloc: Global,
-    answer: &Answer<Option<Version>>,
-    found: Code,
-    nothing: Code,
-    out: &mut [u8],
-    needed: &mut usize,
-) -> i32
-    ensures { (text : List ℕ) × IsPlaced text out.old out.new needed.new
-        × ((result ≡ no_memory) ⊎ ((result ≡ number_of (lowest_code found nothing answer.now))
-        × (text ≡ lowest_text answer.now))) }
-{
-    let code = match answer {
-        Answer::Value(Some(version)) => {
-            return report_version(alloc, version, found, out, needed);
-        }
-        Answer::Value(None) => nothing,
-        Answer::Tag(_) => Code::Tag,
-    };
-    put("", out, needed);
-    code.number()
-}
-
 /// Reports the lowest version with one code, or that there is none with the other.
 pub fn report_lowest(
     alloc: Global,
@@ -272,50 +227,38 @@ pub fn report_lowest(
         (call_outcome (λ answer. answer) answer) out.old out.new needed.new result }
 {
     match answer {
-        Ok(answer) => report_found(alloc, &answer, found, nothing, out, needed),
+        Ok(Answer::Value(Some(version))) => match text_of_version(alloc, &version) {
+            Ok(text) => {
+                put(text.as_str(), out, needed);
+                found.number()
+            }
+            Err(error) => report_problem(&Problem::from(error), out, needed),
+        },
+        Ok(Answer::Value(None)) => {
+            put("", out, needed);
+            nothing.number()
+        }
+        Ok(Answer::Tag(_tag)) => {
+            put("", out, needed);
+            Code::Tag.number()
+        }
         Err(problem) => report_problem(&problem, out, needed),
     }
 }
 
-// The number of a line: whether its version matches, or that it is invalid.
-fn line_number(answer: Option<bool>) -> i8
-    ensures { result ≡ number_of (line_code answer) }
-{
-    match answer {
-        Some(matches) => Code::of_bool(matches).byte(),
-        None => Code::InvalidVersion.byte(),
-    }
-}
-
-// The number of each line.
+// The number of each line: whether its version matches, or that it is invalid.
 fn line_numbers(alloc: Global, answers: &[Option<bool>]) -> Result<Vec<i8>, AllocError>
     ensures { IfOk result
         (λ numbers. numbers.items ≡ map (λ answer. number_of (line_code answer)) answers.now) }
 {
     let mut numbers = Vec::new(alloc);
     for answer in answers {
-        numbers.push(line_number(*answer))?;
+        numbers.push(match answer {
+            Some(matches) => Code::of_bool(*matches).byte(),
+            None => Code::InvalidVersion.byte(),
+        })?;
     }
     Ok(numbers)
-}
-
-// Reports the number of each line.
-fn report_lines(alloc: Global, answers: &[Option<bool>], out: &mut [i8], needed: &mut usize) -> i32
-    ensures reported { IsReported always_yes
-        (λ answers. map (λ answer. number_of (line_code answer)) answers) (as_value answers.now)
-        out.old out.new needed.new result }
-    ensures untouched { IsUntouched out.old out.new needed.new result }
-{
-    match line_numbers(alloc, answers) {
-        Ok(numbers) => {
-            put_items(numbers.as_slice(), out, needed);
-            Code::Yes.number()
-        }
-        Err(_) => {
-            put_items(&[], out, needed);
-            Code::NoMemory.number()
-        }
-    }
 }
 
 /// Reports which versions match; for a tag or a problem, its code alone.
@@ -331,9 +274,13 @@ pub fn report_filter(
     ensures untouched { IsUntouched out.old out.new needed.new result }
 {
     let code = match answer {
-        Ok(Answer::Value(answers)) => {
-            return report_lines(alloc, answers.as_slice(), out, needed);
-        }
+        Ok(Answer::Value(answers)) => match line_numbers(alloc, answers.as_slice()) {
+            Ok(numbers) => {
+                put_items(numbers.as_slice(), out, needed);
+                return Code::Yes.number();
+            }
+            Err(_) => Code::NoMemory,
+        },
         Ok(Answer::Tag(_tag)) => Code::Tag,
         Err(problem) => problem.code(),
     };

@@ -1,4 +1,4 @@
-use Rattle.std.proofs.Common.{◌≡◌, ◌-◌, Err, Ok, Result, arith, drop, length, map, refl, string_bytes, take}
+use Rattle.std.proofs.Common.{◌≡◌, ◌-◌, Err, Ok, Result, arith, drop, length, map, refl, rules, string_bytes, take}
 use Rattle.std.proofs.lemmas.List.{length-map}
 use Rattle.std.proofs.lemmas.Bool.Decides.{nat_tests}
 use Rattle.std.proofs.lemmas.Result.{err_from_is_err_and}
@@ -8,7 +8,7 @@ use Rattle.answers.specs.Questions.{BestMatch}
 use Rattle.answers.specs.declared.questions.End.TheVariants.{Highest}
 use Rattle.answers.specs.declared.asking.Problem.TheVariants as unanswered
 use Rattle.npmver.specs.Question.{Prints}
-use Rattle.npmver.specs.Reported.{reported_best}
+use Rattle.npmver.specs.Reported.{reported_answer, reported_best}
 use Rattle.npmver.specs.declared.Line.{Line}
 use Rattle.npmver.specs.declared.Problem.{Problem}
 use Rattle.npmver.specs.declared.Problem.TheVariants as problem
@@ -63,15 +63,15 @@ returns-in_err-answer c =
     (best_asked parser requirement (map string_bytes rest) (grind (arith, nat_tests)) result (by_parser parser (λ f. Prints reported_best (BestMatch Highest Restricted f requirement (map string_bytes rest))) c.in-Some.flavour known result
     (printed reported_best _ best_proper (Err (fault_of why)) outcome result refl)))
 
-pub returns-in_err-of_best : goal.returns-in_err-of_best
-returns-in_err-of_best c =
+pub returns-in_err-text_of_version-in-Value-Some : goal.returns-in_err-text_of_version-in-Value-Some
+returns-in_err-text_of_version-in-Value-Some c =
     let parser = string_bytes c.parser-item.result in
     let requirement = string_bytes c.requirement-item.result in
     let rest = take (length c.args.arguments.now - 2) (drop 2 c.args.arguments.now) in
     let size = length-map rest string_bytes in
     let known = rw c.as_str.ensures.value at c.in-Some.ensures in
     let result : Result Line Problem = Err (problem.Unanswered unanswered.OutOfMemory) in
-    let p = err_from_is_err_and c.from_residual-in_err-of_best.result c.from_residual-in_err-of_best.ensures.1 in
+    let p = err_from_is_err_and c.from_residual-in_err-text_of_version-in-Value-Some.result c.from_residual-in_err-text_of_version-in-Value-Some.ensures.1 in
     rw (p.1, p.2, two_first string_bytes c.args.arguments.now _ _ c.in-len2-up.len_at_least c.parser-item.is c.requirement-item.is)
     (best_asked parser requirement (map string_bytes rest) (grind (arith, nat_tests)) result (by_parser parser (λ f. Prints reported_best (BestMatch Highest Restricted f requirement (map string_bytes rest))) c.in-Some.flavour known result
     (ran_out reported_best _ best_proper result refl)))
@@ -83,8 +83,9 @@ returns c =
     let rest = take (length c.args.arguments.now - 2) (drop 2 c.args.arguments.now) in
     let size = length-map rest string_bytes in
     let known = rw c.as_str.ensures.value at c.in-Some.ensures in
-    let result : Result Line Problem = Ok c.in_ok-of_best.field-0 in
+    let is : reported_answer c.match-answer.line ≡ reported_best c.in_ok-answer.answer = search rules in
+    let result : Result Line Problem = Ok c.match-answer.line in
     let outcome = rw (c.as_str-2.ensures.value, c.as_slice.ensures.value, c.in_ok-versions.ensures) at c.in_ok-answer.ensures.answer in
     rw (two_first string_bytes c.args.arguments.now _ _ c.in-len2-up.len_at_least c.parser-item.is c.requirement-item.is)
     (best_asked parser requirement (map string_bytes rest) (grind (arith, nat_tests)) result (by_parser parser (λ f. Prints reported_best (BestMatch Highest Restricted f requirement (map string_bytes rest))) c.in-Some.flavour known result
-    (printed reported_best _ best_proper (Ok c.in_ok-answer.answer) outcome result c.in_ok-of_best.ensures)))
+    (printed reported_best _ best_proper (Ok c.in_ok-answer.answer) outcome result is)))

@@ -1,11 +1,11 @@
-use Rattle.std.proofs.Common.{Err, Ok, arith, refl, string_bytes}
+use Rattle.std.proofs.Common.{◌≡◌, rules, Err, Ok, arith, refl, string_bytes}
 use Rattle.std.proofs.lemmas.List.{length-map}
 use Rattle.std.proofs.lemmas.Bool.Decides.{nat_tests}
 use Rattle.std.proofs.lemmas.Result.{err_from_is_err_and}
 use Rattle.answers.specs.Asking.{fault_of}
 use Rattle.answers.specs.Questions.{Matches}
 use Rattle.npmver.specs.Question.{Prints}
-use Rattle.npmver.specs.Reported.{reported_match}
+use Rattle.npmver.specs.Reported.{reported_answer, reported_match}
 use Rattle.npmver.specs.declared.Problem.TheVariants as problem
 use Rattle.npmver.proofs.Reporting.{by_no_parser, by_parser, fits_asked, match_proper, no_fits, no_form, printed, three_texts}
 use Rattle.npmver.proofs.fits.Goals as goal
@@ -43,11 +43,12 @@ returns-in_err-answer c =
 
 pub returns : goal.returns
 returns c =
+    let is : reported_answer c.match-answer.line ≡ reported_match c.in_ok-answer.answer = search rules in
     let parser = string_bytes c.parser-item.result in
     let requirement = string_bytes c.requirement-item.result in
     let version = string_bytes c.version-item.result in
     let known = rw c.as_str.ensures.value at c.in-Some.ensures in
     let outcome = rw (c.as_str-2.ensures.value, c.as_str-3.ensures.value) at c.in_ok-answer.ensures.answer in
     rw (three_texts string_bytes c.args.arguments.now _ _ _ (grind (arith, nat_tests)) c.parser-item.is c.requirement-item.is c.version-item.is)
-    (fits_asked c.args.pre_release parser requirement version (Ok c.of_match.result) (by_parser parser (λ f. Prints reported_match (Matches c.args.pre_release f requirement version)) c.in-Some.flavour known (Ok c.of_match.result)
-    (printed reported_match _ match_proper (Ok c.in_ok-answer.answer) outcome (Ok c.of_match.result) c.of_match.ensures)))
+    (fits_asked c.args.pre_release parser requirement version (Ok c.match-answer.line) (by_parser parser (λ f. Prints reported_match (Matches c.args.pre_release f requirement version)) c.in-Some.flavour known (Ok c.match-answer.line)
+    (printed reported_match _ match_proper (Ok c.in_ok-answer.answer) outcome (Ok c.match-answer.line) is)))

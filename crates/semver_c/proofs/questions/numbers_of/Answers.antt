@@ -1,7 +1,8 @@
-use Rattle.std.proofs.Common.{Ok, refl}
+use Rattle.std.proofs.Common.{◌≡◌, Ok, refl, rules}
 use Rattle.answers.specs.AskingLaws as given
 use Rattle.semver_c.specs.declared.arguments.Problem.TheVariants as problem
 use Rattle.semver_c.specs.declared.questions.Numbers.{Numbers}
+use Rattle.semver_c.specs.Questions.{version_numbers}
 use Rattle.semver_c.proofs.Asking.{by_answer, by_no_text, by_problem, by_text}
 use Rattle.semver_c.proofs.questions.numbers_of.Goals as goal
 
@@ -16,4 +17,7 @@ returns-in_err-version c =
 
 pub returns : goal.returns
 returns c =
-    by_text (λ (numbers : Numbers). numbers) c.args.bytes.now _ c.in_ok-text.text.now c.in_ok-text.ensures (Ok c.of.result) (by_answer (λ (numbers : Numbers). numbers) _ (Ok c.of.result) (given.by_value _ _ _ _ c.in_ok-version.ensures.answer _ (given.answered _ _ _ c.of.ensures)) (Ok c.of.result) refl)
+    let version = c.in_ok-version.version in
+    let numbers : Numbers = record { major = version.major; minor = version.minor; patch = version.patch; is_unqualified = c.if-is_empty.result } in
+    let are : numbers ≡ version_numbers version = search rules in
+    by_text (λ (numbers : Numbers). numbers) c.args.bytes.now _ c.in_ok-text.text.now c.in_ok-text.ensures (Ok numbers) (by_answer (λ (numbers : Numbers). numbers) _ (Ok numbers) (given.by_value _ _ _ _ c.in_ok-version.ensures.answer _ (given.answered _ _ _ are)) (Ok numbers) refl)
