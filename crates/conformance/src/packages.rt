@@ -148,35 +148,28 @@ pub fn reference(call: &str, arguments: &[Item], answer: &mut Answer) -> Reporte
 
 fn reference_of<R: Registry>(text: &str, answer: &mut Answer) -> Reported {
     let reference = RegistryReqReference::<R>::parse(text, answer)?.copy()?;
-    report_reference(&reference, answer)
-}
-
-fn report_reference<R: Registry>(
-    reference: &RegistryReqReference<R>,
-    answer: &mut Answer,
-) -> Reported {
     let req = reference.req();
-    answer.texts(&["read", req.name.as_str(), req.version_req.version_text()])?;
+    answer.text("read")?;
+    answer.text(req.name.as_str())?;
+    answer.text(req.version_req.version_text())?;
     answer.optional(reference.sub_path())?;
-    answer.displayed(reference)?;
-    report_export(R::kind(), reference.sub_path(), answer)
+    answer.displayed(&reference)?;
+    let reported = report_export(R::kind(), reference.sub_path(), answer);
+    drop(reference);
+    reported
 }
 
 fn version_reference_of<R: Registry>(text: &str, answer: &mut Answer) -> Reported {
     let reference = RegistryNvReference::<R>::parse(text, answer)?.copy()?;
-    report_version_reference(&reference, answer)
-}
-
-fn report_version_reference<R: Registry>(
-    reference: &RegistryNvReference<R>,
-    answer: &mut Answer,
-) -> Reported {
     let nv = reference.nv();
-    answer.texts(&["read", nv.name.as_str()])?;
+    answer.text("read")?;
+    answer.text(nv.name.as_str())?;
     answer.displayed(&nv.version)?;
     answer.optional(reference.sub_path())?;
-    answer.displayed(reference)?;
-    report_export(R::kind(), reference.sub_path(), answer)
+    answer.displayed(&reference)?;
+    let reported = report_export(R::kind(), reference.sub_path(), answer);
+    drop(reference);
+    reported
 }
 
 // Reports the name of the export of a JSR package, or null.

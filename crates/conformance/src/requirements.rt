@@ -6,11 +6,10 @@ use crate::kinds::Parse;
 use crate::notation;
 use deno_semver::errors::{error_place, invalid_pieces, version_error_place};
 use deno_semver::package::PackageReq;
-use deno_semver::{Partial, PreRelease, RangeSetOrTag, Version, VersionBoundKind, VersionReq};
+use deno_semver::{PreRelease, RangeSetOrTag, Version, VersionBoundKind, VersionReq};
 use semver_base::lexical::values::Measured;
 use semver_req::common;
 use semver_req::common::values::Flavour;
-use std::alloc::Global;
 
 /// The grammar of this name.
 pub fn flavour(grammar: &str) -> OrFault<Flavour> {
@@ -167,11 +166,7 @@ pub fn partial(arguments: &[Item], answer: &mut Answer) -> Reported {
     };
     let copy = partial.copy();
     drop(partial);
-    report_at(place, &copy?, answer)
-}
-
-// Reports the bound, or the range of a partial version after this operator or kind.
-fn report_at(place: &str, partial: &Partial, answer: &mut Answer) -> Reported {
+    let partial = copy?;
     let alloc = answer.alloc;
     let range = match place {
         "lower" => {
@@ -203,20 +198,18 @@ pub fn ample(arguments: &[Item], answer: &mut Answer) -> Reported {
     let mut longer = String::from_str(answer.alloc, text)?;
     let mut is_ample = true;
     for _ in 0..=count {
-        is_ample = is_ample && is_answered(answer.alloc, longer.as_str());
+        let text = longer.as_str();
+        let mut other = Answer::new(answer.alloc);
+        is_ample = is_ample
+            && has_memory(requirement("npm", text, &mut other))
+            && has_memory(requirement("normal", text, &mut other))
+            && has_memory(requirement("strict", text, &mut other))
+            && has_memory(Version::parse(text, &mut other))
+            && has_memory(PackageReq::parse(text, &mut other));
+        drop(other);
         longer.push('1')?;
     }
     answer.yes_or_no(is_ample)
-}
-
-// Whether no parser runs out of memory.
-fn is_answered(alloc: Global, text: &str) -> bool {
-    let mut answer = Answer::new(alloc);
-    has_memory(requirement("npm", text, &mut answer))
-        && has_memory(requirement("normal", text, &mut answer))
-        && has_memory(requirement("strict", text, &mut answer))
-        && has_memory(Version::parse(text, &mut answer))
-        && has_memory(PackageReq::parse(text, &mut answer))
 }
 
 fn has_memory<T: Drop>(parsed: OrFault<T>) -> bool {

@@ -265,22 +265,6 @@ impl Commented {
     }
 }
 
-// The entries of JSON with comments, which are read as spaces.
-fn of_commented(alloc: Global, file: &str) -> Result<Vec<Entry>, AllocError> {
-    let mut commented = Commented {
-        bytes: file.as_bytes().to_vec(alloc)?,
-        part: Part::Structure,
-        comma: None,
-    };
-    for (index, byte) in file.bytes().enumerate() {
-        commented.step(index, byte);
-    }
-    of_text(
-        alloc,
-        str::from_utf8(commented.bytes.as_slice()).unwrap_or(file),
-    )
-}
-
 // The entries of a file with a range on each line, but for empty lines and comments.
 fn of_lines(alloc: Global, file: &str) -> Result<Vec<Entry>, AllocError> {
     let mut entries = Vec::new(alloc);
@@ -315,9 +299,20 @@ pub fn entries(alloc: Global, path: &str, file: &str) -> Result<Vec<Entry>, Allo
     }
     // Deno's files may have comments, and standard input, of which no name is known.
     let name = path.rsplit('/').next().unwrap_or(path);
-    if name.ends_with(".jsonc") || name.starts_with("deno.") || path == "-" {
-        of_commented(alloc, file)
-    } else {
-        of_text(alloc, file)
+    let may_have_comments = name.ends_with(".jsonc") || name.starts_with("deno.") || path == "-";
+    if !may_have_comments {
+        return of_text(alloc, file);
     }
+    let mut commented = Commented {
+        bytes: file.as_bytes().to_vec(alloc)?,
+        part: Part::Structure,
+        comma: None,
+    };
+    for (index, byte) in file.bytes().enumerate() {
+        commented.step(index, byte);
+    }
+    of_text(
+        alloc,
+        str::from_utf8(commented.bytes.as_slice()).unwrap_or(file),
+    )
 }
