@@ -4,7 +4,7 @@ ghost use Rattle.std.specs.Prelude.{◌≡◌, IfOk, string_bytes};
 ghost use Rattle.serde_json.specs.View.{view};
 ghost use Rattle.serde_json.specs.Written.{compact_text};
 ghost use Rattle.answers.specs.Reading.{texts_of};
-ghost use Rattle.package_answers.specs.Errors.{missing_json, package_errors_json, part_errors_json, part_texts};
+ghost use Rattle.package_answers.specs.Errors.{missing_json, package_errors_json, part_texts};
 
 use answers::errors::errors_text as range_errors_text;
 use answers::object::{Object, json_text, text_json};
@@ -69,19 +69,6 @@ pub fn missing_json(alloc: Global, missing: Option<Part>) -> Result<Value, Alloc
     Ok(Value::Array(items))
 }
 
-// The error of a part as JSON, in an array, for a text that ends here.
-fn part_errors_json(alloc: Global, end: usize, error: &PartError) -> Result<Value, AllocError>
-    ensures { IfOk result (λ json. view json ≡ part_errors_json end error.now) }
-{
-    let json = Object::new(alloc)
-        .put("end", Ok(Value::from(end)))
-        .put("expected", missing_json(alloc, error.missing))
-        .put_text("message", Some(error.failure.message()))
-        .put("start", Ok(Value::from(error.place)))
-        .into_json()?;
-    Ok(Value::Array(vec![in alloc; json]?))
-}
-
 /// Returns errors as the text of a JSON array, for a text that ends here.
 pub(crate) fn errors_text(
     alloc: Global,
@@ -93,6 +80,14 @@ pub(crate) fn errors_text(
 {
     match errors {
         PackageErrors::Range(errors) => range_errors_text(alloc, errors.as_slice()),
-        PackageErrors::Part(error) => json_text(alloc, part_errors_json(alloc, end, error)),
+        PackageErrors::Part(error) => {
+            let json = Object::new(alloc)
+                .put("end", Ok(Value::from(end)))
+                .put("expected", missing_json(alloc, error.missing))
+                .put_text("message", Some(error.failure.message()))
+                .put("start", Ok(Value::from(error.place)))
+                .into_json()?;
+            json_text(alloc, Ok(Value::Array(vec![in alloc; json]?)))
+        }
     }
 }

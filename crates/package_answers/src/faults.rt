@@ -2,11 +2,10 @@
 
 ghost use Rattle.std.specs.Prelude.{◌≡◌, IfOk, Result, is_err, is_some, string_bytes};
 ghost use Rattle.std.specs.Option.{option_copied, option_map};
-ghost use Rattle.serde_json.specs.View.{view};
 ghost use Rattle.deno_semver.specs.PackageOutcome.{PackageFault, IsPackageOutcome};
 ghost use Rattle.deno_semver.specs.ReferenceOutcome.{ReferenceFault, unboxed};
 ghost use Rattle.deno_semver.specs.declared.package.values.PackageReq.{PackageReq};
-ghost use Rattle.package_answers.specs.Faults.{IsFaultText, IsPackageFault, IsReferenceFault, fault_json, parts_kind, suggestion};
+ghost use Rattle.package_answers.specs.Faults.{IsFaultText, IsPackageFault, IsReferenceFault, parts_kind, suggestion};
 ghost use Rattle.package_answers.specs.References.{IsRegistryOutcome};
 ghost use Rattle.package_answers.specs.declared.references.Reference.{Reference};
 
@@ -16,7 +15,6 @@ use answers::object::{Object, json_text};
 use deno_semver::ParseFailure;
 use deno_semver::package::{PackageReqPartsParseError, PackageReqReferenceParseError};
 use semver_req::common::values::Flavour;
-use serde_json::Value;
 use std::alloc::{AllocError, Global};
 
 // The kind of a package's error.
@@ -53,24 +51,6 @@ fn suggestion(
     }
 }
 
-// An error as JSON.
-fn fault_json(
-    alloc: Global,
-    kind: &str,
-    failure: &ParseFailure,
-    suggested: Option<&str>,
-) -> Result<Value, AllocError>
-    ensures { IfOk result (λ json. view json
-        ≡ fault_json kind.now failure.now (option_copied suggested.entry)) }
-{
-    Object::new(alloc)
-        .put_text("kind", Some(kind))
-        .put_text("message", Some(failure.message()))
-        .put_text("snippet", failure.code_snippet())
-        .put_text("suggested", suggested)
-        .into_json()
-}
-
 // The text of an error's JSON. There is none for out of memory.
 fn fault_text(
     alloc: Global,
@@ -84,7 +64,13 @@ fn fault_text(
     if failure.is_memory() {
         return Err(AllocError);
     }
-    json_text(alloc, fault_json(alloc, kind, failure, suggested))
+    let json = Object::new(alloc)
+        .put_text("kind", Some(kind))
+        .put_text("message", Some(failure.message()))
+        .put_text("snippet", failure.code_snippet())
+        .put_text("suggested", suggested)
+        .into_json();
+    json_text(alloc, json)
 }
 
 /// Returns why the text of a package is invalid, with this grammar for its range, as the text of a JSON object; none for a valid package.

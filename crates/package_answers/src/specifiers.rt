@@ -3,13 +3,12 @@
 
 ghost use Rattle.std.specs.Prelude.{◌≡◌, ◌⊎◌, IfErr, IfOk, None, Ok, Result, string_bytes};
 ghost use Rattle.std.specs.Option.{option_copied};
-ghost use Rattle.serde_json.specs.View.{view};
 ghost use Rattle.semver_base.specs.declared.failure.Rejection.{Rejection};
 ghost use Rattle.deno_semver.specs.NvReference.{IsNvReferenceAnswer, IsNvReferenceOutcome, IsNvReferenceRejection};
 ghost use Rattle.deno_semver.specs.declared.jsr.dependency.JsrDepPackageReq.{JsrDepPackageReq};
 ghost use Rattle.deno_semver.specs.declared.package.nv_reference.PackageNvReference.{PackageNvReference};
 ghost use Rattle.answers.specs.Asking.{IsAnswer, IsFailureAt};
-ghost use Rattle.package_answers.specs.Specifiers.{DependencyParts, IsDependencyFailure, IsVersionReferenceFailure, VersionReferenceParts, dependency_failure, dependency_json, version_reference_json};
+ghost use Rattle.package_answers.specs.Specifiers.{DependencyParts, IsDependencyFailure, IsVersionReferenceFailure, VersionReferenceParts, dependency_failure};
 ghost use Rattle.answers.specs.declared.asking.Kind.TheVariants as kind;
 
 use crate::names::{message_failure, nv_json};
@@ -22,8 +21,7 @@ use deno_semver::jsr::{JsrDepPackageReq, JsrDepPackageReqParseError, JsrPackageN
 use deno_semver::npm::NpmPackageNvReference;
 use deno_semver::package::{PackageKind, PackageNvReference, PackageNvReferenceParseError};
 use semver_req::common::values::Flavour;
-use serde_json::Value;
-use std::alloc::{AllocError, Global};
+use std::alloc::Global;
 
 // What is wrong with the text of a dependency.
 fn dependency_failure(alloc: Global, error: JsrDepPackageReqParseError) -> ParseFailure
@@ -36,18 +34,6 @@ fn dependency_failure(alloc: Global, error: JsrDepPackageReqParseError) -> Parse
         JsrDepPackageReqParseError::PackageReqParse(error) => parts_failure(alloc, error.source),
         JsrDepPackageReqParseError::Memory => ParseFailure::memory(),
     }
-}
-
-// The parts of a dependency as JSON: its registry, its canonical form and its package.
-fn dependency_json(alloc: Global, dependency: &JsrDepPackageReq) -> Result<Value, AllocError>
-    ensures { IfOk result (λ json. view json ≡ dependency_json dependency.now) }
-{
-    let normal = dependency.to_string_normalized(alloc)?;
-    Object::new(alloc)
-        .put_text("kind", Some(registry_name(dependency.kind)))
-        .put_text("normal", Some(normal.as_str()))
-        .put("package", package_json(alloc, &dependency.req))
-        .into_json()
 }
 
 /// Parses a dependency, with this grammar for its range, and returns its parts as the text of a JSON object.
@@ -69,7 +55,13 @@ pub fn dependency_parts(alloc: Global, flavour: Flavour, text: &str) -> Result<S
             return Err(Problem::of(Kind::Reference, 0, failure));
         }
     };
-    Ok(json_text(alloc, dependency_json(alloc, &dependency))?)
+    let normal = dependency.to_string_normalized(alloc)?;
+    let json = Object::new(alloc)
+        .put_text("kind", Some(registry_name(dependency.kind)))
+        .put_text("normal", Some(normal.as_str()))
+        .put("package", package_json(alloc, &dependency.req))
+        .into_json();
+    Ok(json_text(alloc, json)?)
 }
 
 /// A reference to one version of a package of either registry.
@@ -115,19 +107,6 @@ fn parse_reference(
     }
 }
 
-// The parts of a reference to a version as JSON: its registry, its name with the version, its path or null, and for JSR the
-// export that the path means.
-fn version_reference_json(alloc: Global, read: &VersionReference) -> Result<Value, AllocError>
-    ensures { IfOk result (λ json. view json ≡ version_reference_json read.now) }
-{
-    Object::new(alloc)
-        .put("export", export_json(alloc, read.kind, read.path()))
-        .put_text("kind", Some(registry_name(read.kind)))
-        .put("package", nv_json(alloc, &read.reference.nv))
-        .put_text("path", read.path())
-        .into_json()
-}
-
 /// Parses a reference to a version, of a JSR package if the text begins with `jsr:`, else of an npm package, and returns its parts
 /// as the text of a JSON object.
 pub fn version_reference_parts(alloc: Global, text: &str) -> Result<String, Problem>
@@ -143,5 +122,11 @@ pub fn version_reference_parts(alloc: Global, text: &str) -> Result<String, Prob
             return Err(Problem::of(Kind::Reference, 0, failure));
         }
     };
-    Ok(json_text(alloc, version_reference_json(alloc, &read))?)
+    let json = Object::new(alloc)
+        .put("export", export_json(alloc, read.kind, read.path()))
+        .put_text("kind", Some(registry_name(read.kind)))
+        .put("package", nv_json(alloc, &read.reference.nv))
+        .put_text("path", read.path())
+        .into_json();
+    Ok(json_text(alloc, json)?)
 }

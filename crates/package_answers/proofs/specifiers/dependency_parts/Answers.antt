@@ -22,4 +22,5 @@ returns-clause-answer c =
     let read : IsDependencyOutcome c.args.flavour c.args.text.now (Ok c.in-Ok.dependency) = search rules in
     let answer : (outcome : Result JsrDepPackageReq DependencyFault) → IsDependencyOutcome c.args.flavour c.args.text.now outcome → IsDependencyAnswer c.args.flavour c.args.text.now outcome (Ok c.in-Ok.dependency) = search rules in
     let parsed = was_parsed kinds.Reference 0 (IsDependencyOutcome c.args.flavour c.args.text.now) c.in-Ok.dependency read (λ (d : JsrDepPackageReq) o. answer (Ok d) o) (λ (fault : DependencyFault) o. answer (Err fault) o) in
-    by_value _ _ _ _ parsed _ (answered _ _ _ (c.in_ok-json_text.ensures (dependency_json c.in-Ok.dependency) (search rules) c.dependency_json.ensures))
+    let json = rw (c.as_str.ensures.value, c.in_ok-normal.ensures, c.registry_name.ensures) at (c.into_json-json.ensures _ (c.put.ensures _ _ (c.put_text-2.ensures _ (c.put_text.ensures _ c.new.ensures)) c.package_json.ensures)) in
+    by_value _ _ _ _ parsed _ (answered _ _ _ (c.in_ok-json_text.ensures (dependency_json c.in-Ok.dependency) (search rules) json))

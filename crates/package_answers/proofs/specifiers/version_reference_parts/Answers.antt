@@ -39,4 +39,5 @@ returns-clause-answer c =
     let parsed = was_parsed kinds.Reference 0 (IsPinnedOutcome text) read (registry, c.in-Ok.ensures.read)
     (λ (read : VersionReference) o. same_of_registry (outcome_of text) text kind registry made c.in-Ok.reference read.kind read.reference o.0 o.1 (λ (r : PackageNvReference) k. c.in-Ok.ensures.answer (Ok r) k))
     (λ (fault : Rejection) o. c.in-Ok.ensures.answer (Err fault) (by_this (outcome_of text) text kind registry o.0 (Err fault) o.1 o.2)) in
-    by_value _ _ _ _ parsed _ (answered _ _ _ (c.in_ok-json_text.ensures (version_reference_json read) (search rules) c.version_reference_json.ensures))
+    let json = rw (c.path-2.ensures, c.registry_name.ensures, c.path.ensures) at (c.into_json-json.ensures _ (c.put_text-2.ensures _ (c.put-2.ensures _ _ (c.put_text.ensures _ (c.put.ensures _ _ c.new.ensures c.export_json.ensures)) c.nv_json.ensures))) in
+    by_value _ _ _ _ parsed _ (answered _ _ _ (c.in_ok-json_text.ensures (version_reference_json read) (search rules) json))

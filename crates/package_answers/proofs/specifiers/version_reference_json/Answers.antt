@@ -1,4 +1,0 @@
-use Rattle.package_answers.proofs.specifiers.version_reference_json.Goals as goal
-
-pub returns : goal.returns
-returns c = rw (c.path-2.ensures, c.registry_name.ensures, c.path.ensures) at (c.into_json.ensures _ (c.put_text-2.ensures _ (c.put-2.ensures _ _ (c.put_text.ensures _ (c.put.ensures _ _ c.new.ensures c.export_json.ensures)) c.nv_json.ensures)))
