@@ -11,7 +11,7 @@ ghost use Rattle.semver_base.specs.VersionGrammar.{IsLead, IsVersionAnswer, IsVe
 ghost use Rattle.semver_base.specs.VersionParserSteps.{IsFittingNumber, IsFittingTriple, IsNumberRejection, IsReadVersion, IsTripleRejection};
 ghost use Rattle.semver_base.specs.Meaning.{release};
 ghost use Rattle.semver_base.specs.ShortTexts.{IsTripleFront};
-ghost use Rattle.semver_base.specs.Precedence.{identifier_cmp, number_of, numbers_cmp, pre_cmp, precedence_cmp, qualifiers_cmp, version_cmp};
+ghost use Rattle.semver_base.specs.Precedence.{number_of, pre_cmp, precedence_cmp, qualifiers_cmp, version_cmp};
 ghost use Rattle.semver_base.specs.PrecedenceLaws.{version_po, version_ties, version_total, SamePrecedence};
 ghost use Rattle.semver_base.specs.VersionText.{ReadsBack, prefixed, version_text};
 
@@ -157,13 +157,23 @@ impl Version {
 
     /// Compares by precedence, which ignores the build (SemVer 2.0.0, section 11). Numeric identifiers of the same value are
     /// ordered by their text, and digits above 18446744073709551615 compare as text.
+    #[tactic(auto, using(crate::specs::PrecedenceLaws::precedence_total))]
     #[inline(always)]
     pub fn cmp_precedence(&self, other: &Version) -> Ordering
         ensures value { result ≡ precedence_cmp self.now other.now }
         ensures equal { (result ≡ Ordering.Equal) ↔ SamePrecedence self.now other.now }
         ensures total { IsTotalOrder precedence_cmp }
     {
-        precedence(self, other)
+        // By the first number that differs, and by pre-releases only if all three tie.
+        if self.major != other.major {
+            self.major.cmp(&other.major)
+        } else if self.minor != other.minor {
+            self.minor.cmp(&other.minor)
+        } else if self.patch != other.patch {
+            self.patch.cmp(&other.patch)
+        } else {
+            cmp_pre(&self.pre, &other.pre)
+        }
     }
 
     // Whether the first number that differs is above the other's; `None` if all three tie. Usually one differs, and then the
@@ -322,20 +332,6 @@ fn number(identifier: &VersionPreOrBuild) -> Option<u64>
     digits.parse::<u64>().ok()
 }
 
-fn cmp_identifier(a: &VersionPreOrBuild, b: &VersionPreOrBuild) -> Ordering
-    ensures { result ≡ identifier_cmp a.now b.now }
-{
-    if a == b {
-        return Ordering::Equal;
-    }
-    match (number(a), number(b)) {
-        (Some(x), Some(y)) => x.cmp(&y).then_with(|| a.cmp(b)),
-        (Some(_), None) => Ordering::Less,
-        (None, Some(_)) => Ordering::Greater,
-        (None, None) => a.cmp(b),
-    }
-}
-
 // Compares pre-releases. Emptiness is known without following the list's pointer.
 #[inline(never)]
 fn cmp_pre(a: &CowVec<VersionPreOrBuild>, b: &CowVec<VersionPreOrBuild>) -> Ordering
@@ -353,48 +349,20 @@ fn cmp_pre(a: &CowVec<VersionPreOrBuild>, b: &CowVec<VersionPreOrBuild>) -> Orde
     }
     let (a, b) = (a.as_slice(), b.as_slice());
     for (x, y) in a.iter().zip(b) {
-        let ordering = cmp_identifier(x, y);
+        if x == y {
+            continue;
+        }
+        let ordering = match (number(x), number(y)) {
+            (Some(m), Some(n)) => m.cmp(&n).then_with(|| x.cmp(y)),
+            (Some(_), None) => Ordering::Less,
+            (None, Some(_)) => Ordering::Greater,
+            (None, None) => x.cmp(y),
+        };
         if ordering != Ordering::Equal {
             return ordering;
         }
     }
     a.len().cmp(&b.len())
-}
-
-// Compares by precedence: by the first number that differs, and by pre-releases only if all three tie.
-#[inline(always)]
-fn precedence(a: &Version, b: &Version) -> Ordering
-    ensures { result ≡ precedence_cmp a.now b.now }
-{
-    if a.major != b.major {
-        return a.major.cmp(&b.major);
-    }
-    if a.minor != b.minor {
-        return a.minor.cmp(&b.minor);
-    }
-    if a.patch != b.patch {
-        return a.patch.cmp(&b.patch);
-    }
-    cmp_pre(&a.pre, &b.pre)
-}
-
-// Compares the three numbers by subtracting `b` from `a` with borrow, from the last number on. One pass finds whether `a` is
-// below `b` and whether they tie, without the branches that a sort can't predict.
-#[inline(always)]
-pub(crate) fn cmp_numbers(a: &Version, b: &Version) -> Ordering
-    ensures { result ≡ numbers_cmp a.now b.now }
-{
-    let (patch, lacks) = a.patch.borrowing_sub(b.patch, false);
-    let (minor, lacks) = a.minor.borrowing_sub(b.minor, lacks);
-    let (major, is_below) = a.major.borrowing_sub(b.major, lacks);
-    // Summed, so that the compiler emits a single test.
-    if major as u128 + minor as u128 + patch as u128 == 0 {
-        Ordering::Equal
-    } else if is_below {
-        Ordering::Less
-    } else {
-        Ordering::Greater
-    }
 }
 
 // Whether the version has neither a pre-release nor a build.
@@ -491,10 +459,18 @@ impl Ord for Version {
     ghost matches_eq = { version_ties };
 
     fn cmp(&self, other: &Version) -> Ordering {
-        let numbers = cmp_numbers(self, other);
-        if numbers != Ordering::Equal {
-            return numbers;
+        // The other's numbers are subtracted with borrow, from the last on. One pass finds whether these are below them and
+        // whether they tie, without the branches that a sort can't predict.
+        let (patch, lacks) = self.patch.borrowing_sub(other.patch, false);
+        let (minor, lacks) = self.minor.borrowing_sub(other.minor, lacks);
+        let (major, is_below) = self.major.borrowing_sub(other.major, lacks);
+        // Summed, so that the compiler emits a single test.
+        if major as u128 + minor as u128 + patch as u128 == 0 {
+            cmp_qualifiers(self, other)
+        } else if is_below {
+            Ordering::Less
+        } else {
+            Ordering::Greater
         }
-        cmp_qualifiers(self, other)
     }
 }

@@ -4,7 +4,6 @@ ghost use Rattle.std.specs.Prelude.{◌≡◌, ◌+◌, ◌++◌, ◌==◌, Some
 ghost use Rattle.std.specs.Fmt.{DisplaysOnOk};
 ghost use Rattle.semver_base.specs.Forms.{form_comparators};
 ghost use Rattle.semver_base.specs.NormalText.{comparator_text, range_text, set_text};
-ghost use Rattle.semver_base.specs.PartialTable.{between};
 ghost use Rattle.semver_base.specs.Shortest.{ending, is_release_of, shortest_between, starting};
 ghost use Rattle.semver_base.specs.VersionText.{version_text};
 
@@ -66,58 +65,43 @@ fn is_next_minor(start: &Version, end: &Version) -> bool
         && is_unqualified(end)
 }
 
-// The first form that fits from `start` to below `end`.
-fn half_open_form(start: &Version, end: &Version) -> Form
-    ensures { shortest_between VersionBoundKind.Inclusive VersionBoundKind.Exclusive
-        start.now end.now
-        ≡ form_comparators result VersionBoundKind.Inclusive VersionBoundKind.Exclusive
-        start.now end.now }
-{
-    if is_release_of(start, start.major, 0, 0) && is_next_major(start, end) {
-        return Form::Major;
-    }
-    if is_release_of(start, start.major, start.minor, 0) && is_next_minor(start, end) {
-        return Form::Minor;
-    }
-    if is_next_minor(start, end) {
-        return Form::Tilde;
-    }
-    if start.major == 0
-        && start.minor == 0
-        && is_next(start.patch, end.patch)
-        && is_release_of(end, 0, 0, end.patch)
-    {
-        return Form::Caret;
-    }
-    if start.major > 0 && is_next_major(start, end) {
-        return Form::Caret;
-    }
-    if is_release_of(start, 0, 0, 0) {
-        return Form::End;
-    }
-    Form::Both
-}
-
 // The first form that fits between two bounds.
 fn form_between(start: &VersionBound, end: &VersionBound) -> Form
     ensures { shortest_between start.now.kind end.now.kind start.now.version end.now.version
         ≡ form_comparators result start.now.kind end.now.kind start.now.version end.now.version }
 {
-    match (start.kind, end.kind) {
+    let kinds = (start.kind, end.kind);
+    let (start, end) = (&start.version, &end.version);
+    match kinds {
         (VersionBoundKind::Inclusive, VersionBoundKind::Inclusive) => {
-            if start.version == end.version {
+            if start == end {
                 return Form::Whole;
             }
-            if is_release_of(&start.version, 0, 0, 0) {
-                return Form::End;
-            }
-            Form::Both
         }
         (VersionBoundKind::Inclusive, VersionBoundKind::Exclusive) => {
-            half_open_form(&start.version, &end.version)
+            if is_release_of(start, start.major, 0, 0) && is_next_major(start, end) {
+                return Form::Major;
+            }
+            if is_release_of(start, start.major, start.minor, 0) && is_next_minor(start, end) {
+                return Form::Minor;
+            }
+            if is_next_minor(start, end) {
+                return Form::Tilde;
+            }
+            let is_next_patch = start.major == 0
+                && start.minor == 0
+                && is_next(start.patch, end.patch)
+                && is_release_of(end, 0, 0, end.patch);
+            if is_next_patch || start.major > 0 && is_next_major(start, end) {
+                return Form::Caret;
+            }
         }
-        (VersionBoundKind::Exclusive, _) => Form::Both,
+        (VersionBoundKind::Exclusive, _) => return Form::Both,
     }
+    if is_release_of(start, 0, 0, 0) {
+        return Form::End;
+    }
+    Form::Both
 }
 
 // Writes the lead and the version.
@@ -154,32 +138,6 @@ fn write_end<W: fmt::Write>(f: &mut fmt::Formatter<W>, end: &VersionBound) -> fm
     }
 }
 
-// Writes the shortest form between two bounds.
-fn write_between<W: fmt::Write>(
-    f: &mut fmt::Formatter<W>,
-    start: &VersionBound,
-    end: &VersionBound,
-) -> fmt::Result
-    ensures { DisplaysOnOk W.write_str_gives f.old result
-        (Some (range_text (between (RangeBound.Version start.now) (RangeBound.Version end.now)))) f.new }
-{
-    let version = &start.version;
-    let (major, minor) = (version.major, version.minor);
-    match form_between(start, end) {
-        Form::Whole => fmt::Display::fmt(version, f),
-        Form::Major => write!(f, "{major}"),
-        Form::Minor => write!(f, "{major}.{minor}"),
-        Form::Tilde => write_led(f, "~", version),
-        Form::Caret => write_led(f, "^", version),
-        Form::End => write_end(f, end),
-        Form::Both => {
-            write_start(f, start)?;
-            f.write_str(" ")?;
-            write_end(f, end)
-        }
-    }
-}
-
 /// Writes the shortest usual form of the range: the first row of this table that fits, where `s` and `e` are the texts of the
 /// start's and the end's version. `s` and `e` are plain if they have neither a pre-release nor a build.
 ///
@@ -202,11 +160,26 @@ impl fmt::Display for VersionRange {
     ghost output = { λ range. Some (range_text range) };
 
     fn fmt<W: fmt::Write>(&self, f: &mut fmt::Formatter<W>) -> fmt::Result {
-        match (&self.start, &self.end) {
-            (RangeBound::Unbounded, RangeBound::Unbounded) => f.write_str("*"),
-            (RangeBound::Unbounded, RangeBound::Version(end)) => write_end(f, end),
-            (RangeBound::Version(start), RangeBound::Unbounded) => write_start(f, start),
-            (RangeBound::Version(start), RangeBound::Version(end)) => write_between(f, start, end),
+        let (start, end) = match (&self.start, &self.end) {
+            (RangeBound::Unbounded, RangeBound::Unbounded) => return f.write_str("*"),
+            (RangeBound::Unbounded, RangeBound::Version(end)) => return write_end(f, end),
+            (RangeBound::Version(start), RangeBound::Unbounded) => return write_start(f, start),
+            (RangeBound::Version(start), RangeBound::Version(end)) => (start, end),
+        };
+        let version = &start.version;
+        let (major, minor) = (version.major, version.minor);
+        match form_between(start, end) {
+            Form::Whole => fmt::Display::fmt(version, f),
+            Form::Major => write!(f, "{major}"),
+            Form::Minor => write!(f, "{major}.{minor}"),
+            Form::Tilde => write_led(f, "~", version),
+            Form::Caret => write_led(f, "^", version),
+            Form::End => write_end(f, end),
+            Form::Both => {
+                write_start(f, start)?;
+                f.write_str(" ")?;
+                write_end(f, end)
+            }
         }
     }
 }

@@ -7,8 +7,8 @@
 //! with all ranges at most: the time grows with the square of their number.
 
 ghost use Rattle.std.specs.Prelude.{◌≡◌, ◌∷◌, ◌&&◌, ◌↔◌, [], IfOk, IfSome, IsTrue, is_some};
-ghost use Rattle.std.specs.List.{list_all, list_any, AllByRecursion};
-ghost use Rattle.semver_base.specs.Candidates.{after, from_ends, from_set, from_start, filtered, lowest_free, lowest_release, lowest_version, lower_passing, lowest_of, next_release, own_pre, passes, pre_from, with_pre, zero_identifier, zero_pre};
+ghost use Rattle.std.specs.List.{list_any, AllByRecursion};
+ghost use Rattle.semver_base.specs.Candidates.{from_set, from_start, filtered, lowest_free, lower_passing, lowest_of, next_release, own_pre, passes, pre_from, with_pre, zero_identifier, zero_pre};
 ghost use Rattle.semver_base.specs.Containment.{AreEquivalent, IsWithin, ReportsEquivalent, ReportsWithin};
 ghost use Rattle.semver_base.specs.LowestVersion.{HasNoBuild, IsLowestPassing, DecidesSome, all_mean_with, set_means_alone_with, sets_mean_with};
 ghost use Rattle.semver_base.specs.Meaning.{is_pre_match, range_means_with, release, set_means_with};
@@ -72,36 +72,6 @@ fn pre_from(alloc: Global, start: &VersionBound) -> Result<Version, AllocError>
 }
 
 impl RangeBound {
-    // The lowest release from this start on, if there is one.
-    fn lowest_release(&self, alloc: Global) -> Option<Version>
-        ensures { result ≡ lowest_release self.now }
-    {
-        let RangeBound::Version(bound) = self else {
-            return Some(release(alloc, 0, 0, 0));
-        };
-        let version = &bound.version;
-        if bound.kind == VersionBoundKind::Exclusive && version.pre.is_empty() {
-            return next_release(alloc, version);
-        }
-        Some(release(alloc, version.major, version.minor, version.patch))
-    }
-
-    // The lowest version from this start on, a release or not, if there is one.
-    fn lowest_version(&self, alloc: Global) -> Result<Option<Version>, AllocError>
-        ensures { IfOk result (λ lowest. lowest ≡ lowest_version self.now) }
-    {
-        let RangeBound::Version(bound) = self else {
-            return Ok(Some(zero_version(alloc, &release(alloc, 0, 0, 0))?));
-        };
-        if bound.kind == VersionBoundKind::Inclusive || !bound.version.pre.is_empty() {
-            return Ok(Some(pre_from(alloc, bound)?));
-        }
-        match next_release(alloc, &bound.version) {
-            Some(next) => Ok(Some(zero_version(alloc, &next)?)),
-            None => Ok(None),
-        }
-    }
-
     // The lowest version from this start on that no bound has to admit, if there is one.
     fn lowest_free(
         &self,
@@ -110,9 +80,25 @@ impl RangeBound {
     ) -> Result<Option<Version>, AllocError>
         ensures { IfOk result (λ lowest. lowest ≡ lowest_free pre_release self.now) }
     {
+        let RangeBound::Version(bound) = self else {
+            let zero = release(alloc, 0, 0, 0);
+            return match pre_release {
+                PreRelease::Restricted => Ok(Some(zero)),
+                PreRelease::Admitted => Ok(Some(zero_version(alloc, &zero)?)),
+            };
+        };
+        let version = &bound.version;
+        if bound.kind == VersionBoundKind::Exclusive && version.pre.is_empty() {
+            return match (next_release(alloc, version), pre_release) {
+                (Some(next), PreRelease::Admitted) => Ok(Some(zero_version(alloc, &next)?)),
+                (next, _) => Ok(next),
+            };
+        }
         match pre_release {
-            PreRelease::Restricted => Ok(self.lowest_release(alloc)),
-            PreRelease::Admitted => self.lowest_version(alloc),
+            PreRelease::Restricted => {
+                Ok(Some(release(alloc, version.major, version.minor, version.patch)))
+            }
+            PreRelease::Admitted => Ok(Some(pre_from(alloc, bound)?)),
         }
     }
 
@@ -139,20 +125,6 @@ impl RangeBound {
             _ => Ok(None),
         }
     }
-
-    // The start of what this end excludes. An absent end excludes nothing, and is returned as it is.
-    fn after(&self) -> Result<RangeBound, AllocError>
-        ensures { IfOk result (λ start. start ≡ after self.now) }
-    {
-        let RangeBound::Version(end) = self else {
-            return Ok(RangeBound::Unbounded);
-        };
-        let kind = match end.kind {
-            VersionBoundKind::Inclusive => VersionBoundKind::Exclusive,
-            VersionBoundKind::Exclusive => VersionBoundKind::Inclusive,
-        };
-        Ok(RangeBound::version(kind, end.version.copy()?))
-    }
 }
 
 // Whether some range matches the version.
@@ -163,15 +135,6 @@ fn some_match(ranges: &[VersionRange], version: &Version, pre_release: PreReleas
     ranges
         .iter()
         .any(|range| range.satisfies_with(version, pre_release))
-}
-
-// Whether all sets match the version.
-fn all_match(sets: &[VersionRangeSet], version: &Version, pre_release: PreRelease) -> bool
-    ensures { result ≡ list_all
-        (λ (set : VersionRangeSet). set_means_with pre_release set.0 version.now) sets.now }
-{
-    sets.iter()
-        .all(|set| set.satisfies_with(version, pre_release))
 }
 
 // What has to match, and what must not.
@@ -190,7 +153,10 @@ impl Question<'_> {
             self.now.without.now version.now }
     {
         some_match(self.own, version, self.pre_release)
-            && all_match(self.others, version, self.pre_release)
+            && self
+                .others
+                .iter()
+                .all(|set| set.satisfies_with(version, self.pre_release))
             && !some_match(self.without, version, self.pre_release)
     }
 
@@ -257,23 +223,6 @@ impl Question<'_> {
         Ok(lowest)
     }
 
-    // The lowest of the version found so far and the candidates past the ends of the excluded ranges that pass.
-    fn from_ends(
-        &self,
-        alloc: Global,
-        found: Option<Version>,
-    ) -> Result<Option<Version>, AllocError>
-        ensures { IfOk result (λ lowest. lowest ≡ from_ends self.now.pre_release
-            (passes self.now.pre_release self.now.own.now self.now.others.now self.now.without.now)
-            found self.now.without.now) }
-    {
-        let mut lowest = found;
-        for range in self.without {
-            lowest = self.from_start(alloc, lowest, &range.end.after()?)?;
-        }
-        Ok(lowest)
-    }
-
     // The lowest version that passes.
     fn lowest(&self, alloc: Global) -> Result<Option<Version>, AllocError>
         ensures { IfOk result (λ lowest. lowest ≡ lowest_of self.now.pre_release
@@ -283,7 +232,21 @@ impl Question<'_> {
         for set in self.others {
             lowest = self.from_set(alloc, lowest, set.0.as_slice())?;
         }
-        self.from_ends(alloc, lowest)
+        for range in self.without {
+            // The start of what the end excludes. An absent end excludes nothing, and is taken as it is.
+            let start = match &range.end {
+                RangeBound::Unbounded => RangeBound::Unbounded,
+                RangeBound::Version(end) => {
+                    let kind = match end.kind {
+                        VersionBoundKind::Inclusive => VersionBoundKind::Exclusive,
+                        VersionBoundKind::Exclusive => VersionBoundKind::Inclusive,
+                    };
+                    RangeBound::version(kind, end.version.copy()?)
+                }
+            };
+            lowest = self.from_start(alloc, lowest, &start)?;
+        }
+        Ok(lowest)
     }
 }
 
