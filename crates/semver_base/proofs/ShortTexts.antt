@@ -9,7 +9,7 @@ use Rattle.std.specs.Str.Parse.{digits_value}
 use Rattle.std.proofs.lemmas.Bool.{cases_lt}
 use Rattle.std.proofs.lemmas.Bool.Decides.{nat_tests}
 use Rattle.std.proofs.lemmas.Int.Digits.{digits_value_more}
-use Rattle.std.proofs.Math.Seq.{drop-append_seam, take-append_seam}
+use Rattle.std.proofs.Math.Seq.{drop-append_seam, take-append_seam, take-length}
 use Rattle.std.proofs.lemmas.List.{drop_more, get_or_append_left, nil_from_length, take_more}
 use Rattle.semver_base.specs.Characters.{dot}
 use Rattle.semver_base.specs.Grammar.{IsLongest, Stops}
@@ -191,6 +191,9 @@ two_numbers read none m n p rest t short =
 
 -- ---- a dot and a number
 
-pub no_number_behind : (rest : List ℕ) (read : Option (ℕ × Bor (List ℕ))) → IfNone read (LacksShortNumber rest) → IfNone read (LacksDottedNumber (dot ∷ rest))
-no_number_behind rest None none = λ more e. subst LacksShortNumber (ap (drop 1) e) none
-no_number_behind rest (Some r) none = tt
+pub no_number_behind : (text : List ℕ) (read : Option (ℕ × Bor (List ℕ))) → IfNone read (LacksShortNumber (take (length text - 1) (drop 1 text)))
+    → IfNone read (LacksDottedNumber text)
+no_number_behind text None none = λ more e.
+    let size : length text - 1 ≡ length more = omega (arith, ap length e) in
+    subst LacksShortNumber (ap (λ n. take n (drop 1 text)) size ∙ ap (λ t. take (length more) (drop 1 t)) e ∙ take-length more) none
+no_number_behind text (Some r) none = tt

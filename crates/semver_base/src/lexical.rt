@@ -3,9 +3,7 @@
 //! Each parser takes the longest prefix of the text that its grammar matches, and returns its value and the rest of the text;
 //! or `None` if no prefix matches. A text is parsed in one pass.
 
-ghost use Rattle.std.specs.Prelude.{◌≡◌, ◌↔◌, ◌<◌, ◌++◌, [], ◌∷◌, IfOk, IsTrue, OnOk, length};
-ghost use Rattle.std.specs.List.{take_while};
-ghost use Rattle.std.specs.Char.{is_ascii_digit};
+ghost use Rattle.std.specs.Prelude.{◌≡◌, ◌↔◌, ◌<◌, ◌++◌, [], ◌∷◌, IfOk, IsTrue, OnOk};
 ghost use Rattle.semver_base.specs.Grammar.{CutsRun, IsAfter, IsLongest, Reads, ReadsAs, answer_of};
 ghost use Rattle.semver_base.specs.Lexical.{IsWhitespace, IsBuild, IsIdentifiers, IsLooseNumber, IsNumber, IsPre, IsQualifier, is_identifier_byte, sized};
 
@@ -39,43 +37,17 @@ pub fn is_all_whitespace(text: &str) -> bool
     after_whitespace(text).is_empty()
 }
 
-// Counts the leading digits.
-#[inline(always)]
-fn digits_len(bytes: &[u8]) -> usize
-    ensures { result ≡ length (take_while is_ascii_digit bytes.now) }
-{
-    bytes.iter().take_while(|b| b.is_ascii_digit()).count()
-}
-
-// Splits off the leading digits, of which there may be none.
-#[inline(always)]
-fn split_digits(text: &str) -> (&str, &str)
-    ensures { CutsRun is_ascii_digit text.now result.0.now result.1.now }
-{
-    text.split_at(digits_len(text.as_bytes()))
-}
-
-#[inline(always)]
-fn is_identifier_byte(byte: u8) -> bool
-    ensures { result ≡ is_identifier_byte byte }
-{
-    byte.is_ascii_alphanumeric() || byte == b'-'
-}
-
-// Counts the leading identifier bytes.
-#[inline(always)]
-fn identifier_len(bytes: &[u8]) -> usize
-    ensures { result ≡ length (take_while is_identifier_byte bytes.now) }
-{
-    bytes.iter().take_while(|b| is_identifier_byte(**b)).count()
-}
-
 // Splits off a leading identifier, which may be empty.
 #[inline(always)]
 fn identifier_front(text: &str) -> (&str, &str)
     ensures { CutsRun is_identifier_byte text.now result.0.now result.1.now }
 {
-    text.split_at(identifier_len(text.as_bytes()))
+    let bytes = text.as_bytes();
+    let len = bytes
+        .iter()
+        .take_while(|b| b.is_ascii_alphanumeric() || **b == b'-')
+        .count();
+    text.split_at(len)
 }
 
 /// Parses one or more ASCII digits, leading zeros allowed.
@@ -83,7 +55,9 @@ fn identifier_front(text: &str) -> (&str, &str)
 pub fn loose_number(text: &str) -> Option<(Measured<u64>, &str)>
     ensures { ReadsAs sized IsLooseNumber text.now (answer_of result) }
 {
-    let (digits, rest) = split_digits(text);
+    let bytes = text.as_bytes();
+    let len = bytes.iter().take_while(|b| b.is_ascii_digit()).count();
+    let (digits, rest) = text.split_at(len);
     if digits.is_empty() {
         return None;
     }

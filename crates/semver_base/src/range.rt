@@ -113,31 +113,6 @@ impl RangeBound {
         RangeBound::Version(VersionBound::new(kind, version))
     }
 
-    // Whether the version lies above this start, if the three numbers decide it.
-    #[inline(always)]
-    fn numbers_hold_as_start(&self, version: &Version) -> Option<bool>
-        ensures { IfSome result (λ is_held. is_held ≡ start_holds self.now version.now) }
-    {
-        match self {
-            RangeBound::Unbounded => Some(true),
-            RangeBound::Version(bound) => version.is_above_by_numbers(&bound.version),
-        }
-    }
-
-    // Whether the version lies below this end, if the three numbers decide it.
-    #[inline(always)]
-    fn numbers_hold_as_end(&self, version: &Version) -> Option<bool>
-        ensures { IfSome result (λ is_held. is_held ≡ end_holds self.now version.now) }
-    {
-        match self {
-            RangeBound::Unbounded => Some(true),
-            RangeBound::Version(bound) => {
-                let is_above = version.is_above_by_numbers(&bound.version)?;
-                Some(!is_above)
-            }
-        }
-    }
-
     // Whether this start includes the version.
     #[inline(always)]
     fn holds_as_start(&self, version: &Version) -> bool
@@ -307,28 +282,6 @@ impl RangeBound {
         }
     }
 
-    // The start of the intersection of two ranges with these starts.
-    #[inline(always)]
-    fn clamped_start(self, other: RangeBound) -> RangeBound
-        ensures { result ≡ clamped_start self other }
-    {
-        if self.is_clamped_start(&other) {
-            return self;
-        }
-        other
-    }
-
-    // The end of the intersection of two ranges with these ends.
-    #[inline(always)]
-    fn clamped_end(self, other: RangeBound) -> RangeBound
-        ensures { result ≡ clamped_end self other }
-    {
-        if self.is_clamped_end(&other) {
-            return self;
-        }
-        other
-    }
-
     // Whether this start lies below the end, or at it with both inclusive.
     #[inline(always)]
     fn starts_before(&self, end: &RangeBound) -> bool
@@ -377,8 +330,14 @@ impl VersionRange {
         ensures { IfSome result (λ is_match.
             is_match ≡ alternative_means_with pre_release (self.now ∷ []) version.now) }
     {
-        let is_above = self.start.numbers_hold_as_start(version)?;
-        let is_below = self.end.numbers_hold_as_end(version)?;
+        let is_above = match &self.start {
+            RangeBound::Unbounded => true,
+            RangeBound::Version(start) => version.is_above_by_numbers(&start.version)?,
+        };
+        let is_below = match &self.end {
+            RangeBound::Unbounded => true,
+            RangeBound::Version(end) => !version.is_above_by_numbers(&end.version)?,
+        };
         if !(is_above & is_below) {
             return Some(false);
         }
@@ -460,8 +419,16 @@ impl VersionRange {
             start: others_start,
             end: others_end,
         } = other;
-        let start = start.clamped_start(others_start);
-        let end = end.clamped_end(others_end);
+        let start = if start.is_clamped_start(&others_start) {
+            start
+        } else {
+            others_start
+        };
+        let end = if end.is_clamped_end(&others_end) {
+            end
+        } else {
+            others_end
+        };
         if start.is_unstopped(&end) {
             return Ok(VersionRange { start, end });
         }
@@ -572,19 +539,17 @@ impl VersionRangeSet {
         Ok(VersionRangeSet(self.0.copy()?))
     }
 
-    // Whether the range overlaps some range of the set.
-    fn overlaps(&self, range: &VersionRange) -> bool
-        ensures { result ≡ list_any (λ own. overlap range.now own) self.now.0 }
-    {
-        self.0.iter().any(|own| range.intersects_range(own))
-    }
-
     // Whether some range overlaps some range of the other set.
     #[inline(never)]
     fn some_overlap(&self, other: &VersionRangeSet) -> bool
         ensures { result ≡ some_overlap self.now.0 other.now.0 }
     {
-        self.0.iter().any(|range| other.overlaps(range))
+        for range in self.0.as_slice() {
+            if other.0.iter().any(|own| range.intersects_range(own)) {
+                return true;
+            }
+        }
+        false
     }
 
     /// Whether some range of one set overlaps some range of the other. If none does, no version matches both sets.

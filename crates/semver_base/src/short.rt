@@ -6,7 +6,6 @@
 
 ghost use Rattle.std.specs.Prelude.{IfNone, IfSome, ◌≡◌, ◌≤◌, ◌+◌, ◌∷◌, ◌++◌, length, drop};
 ghost use Rattle.semver_base.specs.Characters.{dot};
-ghost use Rattle.semver_base.specs.Grammar.{IsAfter};
 ghost use Rattle.semver_base.specs.ShortTexts.{AreAll, AreShort, IsBareNumber, IsDottedNumber, IsShort, IsShortFront, IsTripleFront, LacksDottedNumber, LacksShortNumber, LacksShortTriple};
 ghost use Rattle.std.specs.Fmt.{decimal};
 
@@ -54,17 +53,6 @@ fn number(bytes: &[u8]) -> Option<(u64, &[u8])>
     Some((number, &bytes[len..]))
 }
 
-// Returns what follows a leading `.`.
-#[inline(always)]
-fn after_dot(bytes: &[u8]) -> Option<&[u8]>
-    ensures { IsAfter dot bytes.now result }
-{
-    match bytes {
-        [b'.', rest @ ..] => Some(rest),
-        _ => None,
-    }
-}
-
 // Parses a leading `.` and such a number, and returns it with the rest.
 #[inline(always)]
 fn dotted_number(bytes: &[u8]) -> Option<(u64, &[u8])>
@@ -72,7 +60,10 @@ fn dotted_number(bytes: &[u8]) -> Option<(u64, &[u8])>
     ensures short { IfSome result (λ r. IsShort r.0) }
     ensures none { IfNone result (LacksDottedNumber bytes.now) }
 {
-    number(after_dot(bytes)?)
+    match bytes {
+        [b'.', rest @ ..] => number(rest),
+        _ => None,
+    }
 }
 
 /// Parses one to three leading numbers, as many as there are, and returns them with the rest; `None` exactly if the text doesn't begin

@@ -6,8 +6,7 @@ ghost use Rattle.std.specs.Str.{trim};
 ghost use Rattle.std.specs.Cmp.{IsTotalOrder};
 ghost use Rattle.std.specs.Ordering.{as_partial_cmp};
 ghost use Rattle.semver_base.specs.declared.failure.Rejection.{Rejection};
-ghost use Rattle.semver_base.specs.Grammar.{IsLongest};
-ghost use Rattle.semver_base.specs.VersionGrammar.{IsLead, IsVersionAnswer, IsVersionOutcome, IsVersionRejection, version_failure};
+ghost use Rattle.semver_base.specs.VersionGrammar.{IsVersionAnswer, IsVersionOutcome, IsVersionRejection, version_failure};
 ghost use Rattle.semver_base.specs.VersionParserSteps.{IsFittingNumber, IsFittingTriple, IsNumberRejection, IsReadVersion, IsTripleRejection};
 ghost use Rattle.semver_base.specs.Meaning.{release};
 ghost use Rattle.semver_base.specs.ShortTexts.{IsTripleFront};
@@ -210,19 +209,6 @@ pub fn release(alloc: Global, major: u64, minor: u64, patch: u64) -> Version
     }
 }
 
-// Skips the lead: an optional `=` and an optional `v`, each with optional whitespace after it.
-#[inline(always)]
-fn after_lead(text: &str) -> &str
-    ensures { IsLongest IsLead text.now tt result.now }
-{
-    let text = lexical::after(text, '=').unwrap_or(text);
-    let text = lexical::after_whitespace(text);
-    match lexical::after(text, 'v') {
-        Some(rest) => lexical::after_whitespace(rest),
-        None => text,
-    }
-}
-
 // Parses a leading number that fits.
 #[inline(always)]
 fn fitting_number(text: &str) -> Result<(u64, &str), Rejection>
@@ -305,7 +291,13 @@ fn read(alloc: Global, text: &str) -> Result<Version, ParseFailure>
     ensures read { IfOk result (IsReadVersion text.now) }
     ensures rejected { IfErr result (IsVersionRejection text.now) }
 {
-    let (numbers, rest) = match triple(after_lead(text)) {
+    // The lead is an optional `=` and an optional `v`, each with optional whitespace after it.
+    let unsigned = lexical::after_whitespace(lexical::after(text, '=').unwrap_or(text));
+    let bare = match lexical::after(unsigned, 'v') {
+        Some(rest) => lexical::after_whitespace(rest),
+        None => unsigned,
+    };
+    let (numbers, rest) = match triple(bare) {
         Ok(read) => read,
         Err(rejection) => return Err(failure(alloc, rejection, text)),
     };
