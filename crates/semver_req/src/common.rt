@@ -6,10 +6,10 @@
 ghost use Rattle.std.specs.Prelude.{◌≡◌, IfOk, IfSome, drop, ◌<◌, ◌∷◌, [], false};
 ghost use Rattle.std.specs.Str.{IsCharBoundary};
 ghost use Rattle.semver_base.specs.Characters.{ampersand, bar};
-ghost use Rattle.semver_base.specs.Grammar.{IsAfterOne, Reads, ReadsAs, answer_of, IsText, rest_answer};
+ghost use Rattle.semver_base.specs.Grammar.{Reads, ReadsAs, answer_of, IsText, rest_answer};
 ghost use Rattle.semver_base.specs.Lexical.{IsQualifier, IsSomeWhitespace};
 ghost use Rattle.semver_req.specs.Comparators.{IsMaybeEqual, IsPrimitive, IsPrimitiveKind, sized_primitive};
-ghost use Rattle.semver_req.specs.Partials.{IsComponent, IsLongestAt, IsPartial, IsBarePartial, ReadsAt, ReadsDotted, answer_at, assembled, is_wildcard, sized_component, sized_partial, strictness_of};
+ghost use Rattle.semver_req.specs.Partials.{IsComponent, IsLongestAt, IsPartial, IsBarePartial, ReadsAt, ReadsDotted, answer_at, assembled, sized_component, sized_partial, strictness_of};
 ghost use Rattle.semver_req.specs.Pieces.{IsOperator, place_answer, IsHyphenPair, IsSeparator};
 ghost use Rattle.semver_req.specs.PieceSteps.{sized_hyphen};
 ghost use Rattle.std.specs.Char.{is_whitespace};
@@ -25,29 +25,21 @@ use semver_base::partial::{Partial, XRange};
 use std::alloc::{AllocError, Global};
 use values::{Flavour, Primitive, PrimitiveKind};
 
-// Strips a leading wildcard.
-#[inline(always)]
-fn wildcard(text: &str, flavour: Flavour) -> Option<&str>
-    ensures { IsAfterOne (is_wildcard flavour) text.now result }
-{
-    if let Some(rest) = after(text, '*') {
-        return Some(rest);
-    }
-    if flavour == Flavour::Normal {
-        return None;
-    }
-    if let Some(rest) = after(text, 'x') {
-        return Some(rest);
-    }
-    after(text, 'X')
-}
-
 // Parses a wildcard or a number.
 #[inline(always)]
 fn component(text: &str, flavour: Flavour) -> Option<(Measured<XRange>, &str)>
     ensures { ReadsAs sized_component (IsComponent flavour) text.now (answer_of result) }
 {
-    if let Some(rest) = wildcard(text, flavour) {
+    let after_wildcard = if let Some(rest) = after(text, '*') {
+        Some(rest)
+    } else if flavour == Flavour::Normal {
+        None
+    } else if let Some(rest) = after(text, 'x') {
+        Some(rest)
+    } else {
+        after(text, 'X')
+    };
+    if let Some(rest) = after_wildcard {
         return Some((Measured::Fits(XRange::Wildcard), rest));
     }
     match lexical::number(text, flavour.strictness())? {

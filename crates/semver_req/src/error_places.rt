@@ -3,7 +3,7 @@
 //! No second parser decides it. Whether a prefix is viable is asked of the parser itself, on the prefix with a few endings behind it.
 
 ghost use Rattle.std.specs.Prelude.{◌≡◌, ◌↔◌, ◌++◌, IfErr, IfOk, IsTrue, List, ℕ, false, true, None};
-ghost use Rattle.semver_req.specs.Sizes.{Sized, admits, is_in_grammar};
+ghost use Rattle.semver_req.specs.Sizes.{Sized};
 ghost use Rattle.semver_req.specs.Viable.{HasPiece, HasRange, IsErrorPlace, IsPart, IsPieceOrCut, IsTextOf, IsViablePrefix, IsVersionText};
 ghost use Rattle.semver_req.specs.Pieces.{IsCutting};
 ghost use Rattle.semver_base.specs.declared.version.Version.{Version};
@@ -17,7 +17,6 @@ use crate::common::values::Flavour;
 use crate::range_set_or_tag::RangeOrInvalid;
 use semver_base::failure::{ParseFailure, Rejection};
 use semver_base::lexical::values::Measured;
-use semver_base::partial::Partial;
 use semver_base::version::Version;
 use std::alloc::Global;
 
@@ -39,32 +38,6 @@ pub(crate) enum Sizes {
     Fitting,
 }
 
-impl Sizes {
-    // Whether a partial version is admitted.
-    fn admits(self, partial: &Measured<Partial>) -> bool
-        ensures { result ≡ admits self partial.now }
-    {
-        match self {
-            Sizes::Any => true,
-            Sizes::Fitting => match partial {
-                Measured::Fits(_) => true,
-                Measured::TooLarge => false,
-            },
-        }
-    }
-
-    // Whether an alternative that is rejected for this reason is one of the grammar.
-    fn is_in_grammar(self, rejection: Rejection) -> bool
-        ensures { result ≡ is_in_grammar self rejection }
-    {
-        match (rejection, self) {
-            (Rejection::UnexpectedCharacter, _) => false,
-            (Rejection::NumberTooLarge, Sizes::Fitting) => false,
-            _ => true,
-        }
-    }
-}
-
 // Whether the text, which is followed by `||` or not, is an alternative of the grammar.
 fn is_piece(
     alloc: Global,
@@ -82,7 +55,14 @@ fn is_piece(
             drop(range);
             Ok(true)
         }
-        RangeOrInvalid::Invalid(rejection) => Ok(sizes.is_in_grammar(rejection)),
+        RangeOrInvalid::Invalid(rejection) => {
+            let is_in_grammar = match (rejection, sizes) {
+                (Rejection::UnexpectedCharacter, _) => false,
+                (Rejection::NumberTooLarge, Sizes::Fitting) => false,
+                _ => true,
+            };
+            Ok(is_in_grammar)
+        }
     }
 }
 
@@ -158,7 +138,10 @@ fn is_range(alloc: Global, text: &str, sizes: Sizes) -> Result<bool, ParseFailur
     let Some((written, rest)) = non_primitive_front(alloc, text, Flavour::Specifier)? else {
         return Ok(false);
     };
-    let is_admitted = sizes.admits(&written.partial);
+    let is_admitted = match (sizes, &written.partial) {
+        (Sizes::Fitting, Measured::TooLarge) => false,
+        _ => true,
+    };
     drop(written);
     if rest.is_empty() {
         return Ok(is_admitted);
@@ -168,25 +151,6 @@ fn is_range(alloc: Global, text: &str, sizes: Sizes) -> Result<bool, ParseFailur
 
 // With one of these endings, each prefix of a version's text is a version's text.
 const ENDINGS: [&str; 6] = ["", "1", "1.1", "1.1.1", ".1", ".1.1"];
-
-// Whether some version begins with the prefix.
-fn is_viable_version(alloc: Global, prefix: &str) -> Result<bool, ParseFailure>
-    ensures value { IfOk result (λ yes. IsTrue yes ↔ IsViablePrefix IsVersionText prefix.now) }
-    ensures memory { IfErr result (λ failure. failure ≡ None) }
-{
-    for ending in &ENDINGS {
-        let text = format!(in alloc; "{prefix}{ending}")?;
-        match Version::parse_standard(alloc, &text) {
-            Ok(version) => {
-                drop(version);
-                return Ok(true);
-            }
-            Err(error) if error.is_memory() => return Err(ParseFailure::memory()),
-            Err(_error) => {}
-        }
-    }
-    Ok(false)
-}
 
 // Whether some text of the grammar begins with the prefix.
 fn is_viable(alloc: Global, prefix: &str, grammar: Grammar) -> Result<bool, ParseFailure>
@@ -206,7 +170,20 @@ fn is_viable(alloc: Global, prefix: &str, grammar: Grammar) -> Result<bool, Pars
                 is_range(alloc, &text, sizes)
             }
         },
-        Grammar::Versions => is_viable_version(alloc, prefix),
+        Grammar::Versions => {
+            for ending in &ENDINGS {
+                let text = format!(in alloc; "{prefix}{ending}")?;
+                match Version::parse_standard(alloc, &text) {
+                    Ok(version) => {
+                        drop(version);
+                        return Ok(true);
+                    }
+                    Err(error) if error.is_memory() => return Err(ParseFailure::memory()),
+                    Err(_error) => {}
+                }
+            }
+            Ok(false)
+        }
     }
 }
 

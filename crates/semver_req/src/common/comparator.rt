@@ -6,7 +6,7 @@ ghost use Rattle.semver_base.specs.Grammar.{ReadsAs, answer_of};
 ghost use Rattle.semver_base.specs.PartialTable.{IsBoundRejection, all_fit};
 ghost use Rattle.semver_req.specs.Comparators.{IsComparator, IsLed};
 ghost use Rattle.semver_req.specs.Partials.{sized_partial};
-ghost use Rattle.semver_req.specs.Written.{IsOperatorCut, IsNpmFront, IsNpmOperatorCut, IsNonPrimitive, ReadsComparator, comparator_of, with_operator};
+ghost use Rattle.semver_req.specs.Written.{IsOperatorCut, IsNpmFront, IsNonPrimitive, ReadsComparator, comparator_of, with_operator};
 ghost use Rattle.semver_req.specs.declared.common.values.Flavour.TheVariants.{Normal, Npm};
 
 use crate::common::values::{Flavour, PrimitiveKind};
@@ -125,18 +125,6 @@ fn led_partial(alloc: Global, text: &str) -> Result<Option<(Measured<Partial>, &
     }
 }
 
-// Splits off npm's leading operator, where `~>` is a `~`.
-#[inline(always)]
-fn split_npm_operator(text: &str) -> (Operator, &str)
-    ensures { IsNpmOperatorCut text.now result.0 result.1.now }
-{
-    let (operator, rest) = split_operator(text);
-    match operator {
-        Operator::Tilde => (operator, after(rest, '>').unwrap_or(rest)),
-        _ => (operator, rest),
-    }
-}
-
 // The parsed partial version with this operator.
 #[inline(always)]
 fn with_operator<'a>(
@@ -158,7 +146,12 @@ fn npm_by_operator(
 ) -> Result<Option<(Written, &str)>, AllocError>
     ensures { IfOk result (λ r. IsNpmFront other text.now (answer_of r)) }
 {
-    let (operator, rest) = split_npm_operator(text);
+    let (operator, rest) = split_operator(text);
+    // `~>` is a `~`.
+    let rest = match operator {
+        Operator::Tilde => after(rest, '>').unwrap_or(rest),
+        _ => rest,
+    };
     match operator {
         Operator::Tilde | Operator::Caret => Ok(with_operator(operator, led_partial(alloc, rest)?)),
         Operator::Primitive(_) | Operator::Absent => {

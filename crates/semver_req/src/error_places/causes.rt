@@ -54,13 +54,6 @@ pub(crate) struct CauseAt {
     pub(crate) cause: Cause,
 }
 
-// The index of the first character that no tag has.
-fn outside_tag(text: &str) -> Option<usize>
-    ensures { IsFirstOutsideTag text.now result }
-{
-    text.find(|c: char| !is_tag_character(c))
-}
-
 // Whether the numbers of a comparator fit, and a bound of it doesn't.
 fn overflows(alloc: Global, written: Written) -> Result<bool, ParseFailure>
     ensures value { (p : Partial) → written.partial ≡ sized_partial p
@@ -107,33 +100,6 @@ fn large_bound(alloc: Global, piece: &str, flavour: Flavour) -> Result<usize, Pa
     Ok(0)
 }
 
-// What is wrong with an alternative that isn't in the grammar.
-fn outside_grammar(
-    alloc: Global,
-    piece: &str,
-    outside: Option<usize>,
-    flavour: Flavour,
-) -> Result<CauseAt, ParseFailure>
-    ensures value { IfOk result (λ c. IsCauseAt flavour piece.now outside c.cause c.place) }
-    ensures rejection { IfOk result (λ c. rejection_of c.cause ≡ rejection.UnexpectedCharacter) }
-    ensures memory { IfErr result (λ failure. failure ≡ None) }
-{
-    let place = error_place(alloc, piece, flavour)?;
-    match outside {
-        Some(end) if place == 0 && end > 0 => Ok(CauseAt {
-            place: end,
-            cause: Cause::NoTag,
-        }),
-        _ => {
-            let expected = expected_after(alloc, &piece[..place], flavour)?;
-            Ok(CauseAt {
-                place,
-                cause: Cause::Unexpected(expected),
-            })
-        }
-    }
-}
-
 /// What is wrong with an alternative that the parser rejects, and where.
 ///
 /// Fails only out of memory.
@@ -149,7 +115,8 @@ pub(crate) fn cause_of(
     ensures rejected { IfOk result (λ c. IsRejected flavour piece.now (rejection_of c.cause)) }
     ensures memory { IfErr result (λ failure. failure ≡ None) }
 {
-    let outside = outside_tag(piece);
+    // The index of the first character that no tag has.
+    let outside = piece.find(|c: char| !is_tag_character(c));
     match rejection {
         Rejection::EmptyConstraint => Ok(CauseAt {
             place: 0,
@@ -163,6 +130,21 @@ pub(crate) fn cause_of(
             place: large_bound(alloc, piece, flavour)?,
             cause: Cause::BoundTooLarge,
         }),
-        _ => outside_grammar(alloc, piece, outside, flavour),
+        _ => {
+            let place = error_place(alloc, piece, flavour)?;
+            match outside {
+                Some(end) if place == 0 && end > 0 => Ok(CauseAt {
+                    place: end,
+                    cause: Cause::NoTag,
+                }),
+                _ => {
+                    let expected = expected_after(alloc, &piece[..place], flavour)?;
+                    Ok(CauseAt {
+                        place,
+                        cause: Cause::Unexpected(expected),
+                    })
+                }
+            }
+        }
     }
 }

@@ -2,7 +2,7 @@
 
 ghost use Rattle.std.specs.Prelude.{◌≡◌, ◌++◌, ◌+◌, ◌<◌, ◌^◌, ◌∷◌, [], IfErr, IfOk, List, None, OnOk, length, true};
 ghost use Rattle.semver_req.specs.Causes.{IsRejected};
-ghost use Rattle.semver_req.specs.InvalidPieces.{AreErrorsOf, AreInvalidBehind, AreInvalidPieces, IsErrorAt, IsErrorOf, IsStrictError};
+ghost use Rattle.semver_req.specs.InvalidPieces.{AreErrorsOf, AreInvalidBehind, AreInvalidPieces, IsErrorAt, IsErrorOf};
 ghost use Rattle.semver_req.specs.declared.error_places.pieces.InvalidPiece.{InvalidPiece};
 ghost use Rattle.semver_req.specs.Pieces.{IsCutting};
 
@@ -120,33 +120,6 @@ fn errors_of(
     }
 }
 
-// The error of a text that isn't a range of the strict grammar, with so many bytes before it.
-fn strict_errors(
-    alloc: Global,
-    before: usize,
-    text: &str,
-) -> Result<Vec<InvalidPiece>, ParseFailure>
-    requires { before + length text.now < 2 ^ 64 }
-    ensures value { IfOk result (λ errors. IsStrictError before text.now errors.items) }
-    ensures memory { IfErr result (λ failure. failure ≡ None) }
-{
-    let mut errors = Vec::new(alloc);
-    let found = parse_single(alloc, text)?;
-    let rejection = match found {
-        Single::Range(range) => {
-            drop(range);
-            return Ok(errors);
-        }
-        Single::Absent if is_all_whitespace(text) => Rejection::EmptyConstraint,
-        Single::Absent => Rejection::UnexpectedCharacter,
-        Single::Followed => Rejection::UnexpectedCharacter,
-        Single::TooLarge(rejection) => rejection,
-    };
-    let error = error_of(alloc, before, text, rejection, Flavour::Specifier)?;
-    push(&mut errors, error)?;
-    Ok(errors)
-}
-
 /// The alternatives of a text that are invalid, in their order, with what is wrong in each and where: none if the text is valid.
 /// npm's parser trims a text before it splits it. In the strict grammar, which has no alternatives, the whole text is meant.
 ///
@@ -181,6 +154,22 @@ pub fn invalid_pieces_behind(
             errors_of(alloc, before, rest.trim_end(), Flavour::Npm)
         }
         Flavour::Normal => errors_of(alloc, before, text, Flavour::Normal),
-        Flavour::Specifier => strict_errors(alloc, before, text),
+        Flavour::Specifier => {
+            let mut errors = Vec::new(alloc);
+            let found = parse_single(alloc, text)?;
+            let rejection = match found {
+                Single::Range(range) => {
+                    drop(range);
+                    return Ok(errors);
+                }
+                Single::Absent if is_all_whitespace(text) => Rejection::EmptyConstraint,
+                Single::Absent => Rejection::UnexpectedCharacter,
+                Single::Followed => Rejection::UnexpectedCharacter,
+                Single::TooLarge(rejection) => rejection,
+            };
+            let error = error_of(alloc, before, text, rejection, Flavour::Specifier)?;
+            push(&mut errors, error)?;
+            Ok(errors)
+        }
     }
 }

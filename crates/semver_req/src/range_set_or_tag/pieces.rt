@@ -9,7 +9,7 @@ ghost use Rattle.semver_base.specs.declared.partial.Partial.{Partial};
 ghost use Rattle.semver_req.specs.Partials.{sized_partial};
 ghost use Rattle.semver_req.specs.PieceReading.{IsPieceRead, joined, retained_of};
 ghost use Rattle.semver_req.specs.PieceSteps.{AreAllRead, IsAdded, IsFirstPiece, IsHyphenRead, IsNextPiece, IsWholeRead, both_now};
-ghost use Rattle.semver_req.specs.Pieces.{HasNoBar, IsComparators, IsCutAt, IsCutting, IsFilled, IsHyphen, hyphen};
+ghost use Rattle.semver_req.specs.Pieces.{HasNoBar, IsComparators, IsCutAt, IsCutting, IsHyphen, hyphen};
 ghost use Rattle.semver_req.specs.Comparators.{IsComparator};
 ghost use Rattle.semver_req.specs.Written.{IsFront, comparator_of};
 ghost use Rattle.semver_req.specs.declared.range_set_or_tag.pieces.RangeOrInvalid.TheVariants.{Invalid};
@@ -180,28 +180,6 @@ impl RangeOrInvalid {
         Ok(Some(RangeOrInvalid::between(alloc, &hyphen)?))
     }
 
-    // Parses the whole piece, which isn't empty. No piece is both a list and a hyphen range of npm's, so their order is free.
-    #[inline(always)]
-    fn filled(
-        alloc: Global,
-        piece: &str,
-        flavour: Flavour,
-    ) -> Result<Option<RangeOrInvalid>, ParseFailure>
-        ensures value { IfOk result (IsWholeRead (IsFilled flavour) piece.now) }
-        ensures memory { IfErr result (λ failure. failure ≡ None) }
-    {
-        match flavour {
-            Flavour::Npm => {
-                if let Some(read) = RangeOrInvalid::list(alloc, piece, Flavour::Npm)? {
-                    return Ok(Some(read));
-                }
-                RangeOrInvalid::hyphen(alloc, piece)
-            }
-            Flavour::Normal => RangeOrInvalid::list(alloc, piece, Flavour::Normal),
-            Flavour::Specifier => Ok(None),
-        }
-    }
-
     /// Parses a piece of npm's or the normalized grammar, which is followed by `||` or not. An empty piece, or whitespace
     /// followed by `||`, is the range without bounds; comparators with separators between them, and at most one at the end,
     /// are the intersection of their ranges; two partial versions around a `-` are npm's hyphen range; anything else is
@@ -224,7 +202,16 @@ impl RangeOrInvalid {
         if filling.is_empty() {
             return Ok(RangeOrInvalid::Range(VersionRange::all()));
         }
-        match RangeOrInvalid::filled(alloc, piece, flavour)? {
+        // No piece is both a list and a hyphen range of npm's, so their order is free.
+        let read = match flavour {
+            Flavour::Npm => match RangeOrInvalid::list(alloc, piece, Flavour::Npm)? {
+                Some(read) => Some(read),
+                None => RangeOrInvalid::hyphen(alloc, piece)?,
+            },
+            Flavour::Normal => RangeOrInvalid::list(alloc, piece, Flavour::Normal)?,
+            Flavour::Specifier => None,
+        };
+        match read {
             Some(read) => Ok(read),
             None => Ok(RangeOrInvalid::Invalid(Rejection::UnexpectedCharacter)),
         }

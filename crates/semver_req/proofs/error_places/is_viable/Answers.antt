@@ -1,8 +1,9 @@
-use Rattle.std.proofs.Common.{refl, ◌∙◌}
-use Rattle.std.proofs.lemmas.Bool.{both_ways}
+use Rattle.std.proofs.Common.{◌≡◌, ◌∙◌, Ok, arith, inl, inr, refl, rules}
+use Rattle.std.proofs.lemmas.Bool.{both_ways, cases_lt}
 use Rattle.std.proofs.lemmas.Result.{IfOk-weaker}
 use Rattle.semver_req.specs.Pieces.{npm, normal}
 use Rattle.semver_req.proofs.ViableParts.{range_viable, range_with, range_with_viable}
+use Rattle.semver_req.proofs.VersionTexts.{none_made}
 use Rattle.semver_req.proofs.error_places.is_viable.Goals as goal
 
 pub is_viable_piece-requires : goal.is_viable_piece-requires
@@ -28,5 +29,30 @@ returns-in_ok-text-in-Specifier-clause-value c =
     (λ b h. (λ t. range_with_viable c.in-Ranges.sizes c.args.prefix.now c.deref.result.now e (h.0 t), λ v. h.1 (range_with c.in-Ranges.sizes c.args.prefix.now c.deref.result.now e (λ k. both_ways fact.field-0 c.if-branch.false (fact.ensures.value.1 k)) v)))
     c.is_range-in-Specifier.ensures.value)
 
-pub returns-in-Versions-clause-value : goal.returns-in-Versions-clause-value
-returns-in-Versions-clause-value c = rw c.in-Versions.is c.is_viable_version.ensures.value
+pub loop-ending-init : goal.loop-ending-init
+loop-ending-init c = λ k less made. omega arith
+
+pub loop-ending-preserved : goal.loop-ending-preserved
+loop-ending-preserved c = λ k less made. elim (cases_lt k c.loop-ending.ending-index) [
+  | inl earlier ↦ c.loop-ending.invariant k earlier made
+  | inr there ↦
+      let same : k ≡ c.loop-ending.ending-index = omega arith in
+      let it = rw same at made in
+      let none = c.in-Err.ensures.answer (Ok it.0) (rw (c.deref-in-loop-ending.ensures ∙ c.in_ok-text-in-Versions.ensures.ok) it.1) in
+      cc (c.if-is_memory.ensures.1 none)
+]
+
+pub returns-in-Ok-clause-value : goal.returns-in-Ok-clause-value
+returns-in-Ok-clause-value c = rw c.in-Versions.is (search rules)
+
+pub returns-after-loop-ending-clause-value : goal.returns-after-loop-ending-clause-value
+returns-after-loop-ending-clause-value c = rw c.in-Versions.is (
+  λ t. cc t,
+  λ v. absurd (none_made c.args.prefix.now c.utf8.prefix
+      (λ m. c.loop-ending.invariant 0 (omega (arith, c.loop-ending-test.false)) m)
+      (λ m. c.loop-ending.invariant 1 (omega (arith, c.loop-ending-test.false)) m)
+      (λ m. c.loop-ending.invariant 2 (omega (arith, c.loop-ending-test.false)) m)
+      (λ m. c.loop-ending.invariant 3 (omega (arith, c.loop-ending-test.false)) m)
+      (λ m. c.loop-ending.invariant 4 (omega (arith, c.loop-ending-test.false)) m)
+      (λ m. c.loop-ending.invariant 5 (omega (arith, c.loop-ending-test.false)) m) v),
+)
