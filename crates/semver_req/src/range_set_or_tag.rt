@@ -15,8 +15,8 @@ mod pieces;
 
 use crate::common::short::{short_piece, star_or_qualified};
 use crate::common::values::Flavour;
+use pieces::Alternatives;
 pub(crate) use pieces::cut;
-use pieces::read_pieces;
 pub use pieces::{FirstPiece, RangeOrInvalid, first_piece, next_piece};
 use semver_base::failure::ParseFailure;
 use semver_base::lexical::is_all_whitespace;
@@ -133,7 +133,18 @@ impl RangeSetOrTag {
         ensures rejection { IfErr result (IsCutRejection flavour text.now) }
     {
         let first = first_piece(text);
-        let all = read_pieces(alloc, first, flavour)?;
+        let mut all = Alternatives {
+            ranges: CowVec::new(alloc),
+            rejected: None,
+            is_only: true,
+        };
+        all.add(alloc, first.piece, first.is_followed, flavour)?;
+        let mut rest = first.rest;
+        while let Some((piece, more)) = next_piece(rest) {
+            all.is_only = false;
+            all.add(alloc, piece, false, flavour)?;
+            rest = more;
+        }
         let Some(rejection) = all.rejected else {
             return Ok(RangeSetOrTag::RangeSet(VersionRangeSet(all.ranges)));
         };

@@ -8,7 +8,7 @@
 
 ghost use Rattle.std.specs.Prelude.{◌≡◌, ◌∷◌, ◌&&◌, ◌↔◌, [], IfOk, IfSome, IsTrue, is_some};
 ghost use Rattle.std.specs.List.{list_any, AllByRecursion};
-ghost use Rattle.semver_base.specs.Candidates.{from_set, from_start, filtered, lowest_free, lower_passing, lowest_of, next_release, own_pre, passes, pre_from, with_pre, zero_identifier, zero_pre};
+ghost use Rattle.semver_base.specs.Candidates.{from_set, from_start, filtered, lowest_free, lower_passing, lowest_of, own_pre, passes, pre_from, with_pre, zero_identifier, zero_pre};
 ghost use Rattle.semver_base.specs.Containment.{AreEquivalent, IsWithin, ReportsEquivalent, ReportsWithin};
 ghost use Rattle.semver_base.specs.LowestVersion.{HasNoBuild, IsLowestPassing, DecidesSome, all_mean_with, set_means_alone_with, sets_mean_with};
 ghost use Rattle.semver_base.specs.Meaning.{is_pre_match, range_means_with, release, set_means_with};
@@ -35,20 +35,6 @@ fn with_pre(alloc: Global, version: &Version, pre: CowVec<VersionPreOrBuild>) ->
         pre,
         build: CowVec::new(alloc),
     }
-}
-
-// The next release after that of these numbers, if there is one.
-fn next_release(alloc: Global, version: &Version) -> Option<Version>
-    ensures { result ≡ next_release version.now }
-{
-    if let Some(patch) = version.patch.checked_add(1) {
-        return Some(release(alloc, version.major, version.minor, patch));
-    }
-    if let Some(minor) = version.minor.checked_add(1) {
-        return Some(release(alloc, version.major, minor, 0));
-    }
-    let major = version.major.checked_add(1)?;
-    Some(release(alloc, major, 0, 0))
 }
 
 // The lowest pre-release of the version's numbers.
@@ -89,9 +75,18 @@ impl RangeBound {
         };
         let version = &bound.version;
         if bound.kind == VersionBoundKind::Exclusive && version.pre.is_empty() {
-            return match (next_release(alloc, version), pre_release) {
-                (Some(next), PreRelease::Admitted) => Ok(Some(zero_version(alloc, &next)?)),
-                (next, _) => Ok(next),
+            let next = if let Some(patch) = version.patch.checked_add(1) {
+                release(alloc, version.major, version.minor, patch)
+            } else if let Some(minor) = version.minor.checked_add(1) {
+                release(alloc, version.major, minor, 0)
+            } else if let Some(major) = version.major.checked_add(1) {
+                release(alloc, major, 0, 0)
+            } else {
+                return Ok(None);
+            };
+            return match pre_release {
+                PreRelease::Restricted => Ok(Some(next)),
+                PreRelease::Admitted => Ok(Some(zero_version(alloc, &next)?)),
             };
         }
         match pre_release {

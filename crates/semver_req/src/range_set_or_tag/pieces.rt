@@ -8,7 +8,7 @@ ghost use Rattle.semver_base.specs.declared.lexical.values.Measured.TheVariants.
 ghost use Rattle.semver_base.specs.declared.partial.Partial.{Partial};
 ghost use Rattle.semver_req.specs.Partials.{sized_partial};
 ghost use Rattle.semver_req.specs.PieceReading.{IsPieceRead, joined, retained_of};
-ghost use Rattle.semver_req.specs.PieceSteps.{AreAllRead, IsAdded, IsFirstPiece, IsHyphenRead, IsNextPiece, IsWholeRead, both_now};
+ghost use Rattle.semver_req.specs.PieceSteps.{IsAdded, IsFirstPiece, IsHyphenRead, IsNextPiece, IsWholeRead, both_now};
 ghost use Rattle.semver_req.specs.Pieces.{HasNoBar, IsComparators, IsCutAt, IsCutting, IsHyphen, hyphen};
 ghost use Rattle.semver_req.specs.Comparators.{IsComparator};
 ghost use Rattle.semver_req.specs.Written.{IsFront, comparator_of};
@@ -328,7 +328,7 @@ impl Alternatives {
 
     // Adds one piece. The only piece was tried as a short one before the text was split.
     #[inline(never)]
-    fn add(
+    pub(super) fn add(
         &mut self,
         alloc: Global,
         piece: &str,
@@ -347,30 +347,4 @@ impl Alternatives {
         }
         self.add_by_grammar(alloc, piece, is_followed, flavour)
     }
-}
-
-/// Parses each piece of a text, whose first piece is already split off. Fails only out of memory.
-pub(super) fn read_pieces(
-    alloc: Global,
-    first: FirstPiece<'_>,
-    flavour: Flavour,
-) -> Result<Alternatives, ParseFailure>
-    requires { IsCutting flavour }
-    ensures value { let f = first.entry in IfOk result
-        (AreAllRead flavour f.piece.now f.is_followed f.rest.now) }
-    ensures memory { IfErr result (λ failure. failure ≡ None) }
-{
-    let mut all = Alternatives {
-        ranges: CowVec::new(alloc),
-        rejected: None,
-        is_only: true,
-    };
-    all.add(alloc, first.piece, first.is_followed, flavour)?;
-    let mut rest = first.rest;
-    while let Some((piece, more)) = next_piece(rest) {
-        all.is_only = false;
-        all.add(alloc, piece, false, flavour)?;
-        rest = more;
-    }
-    Ok(all)
 }

@@ -3,7 +3,7 @@ use denote.Text.{Utf8}
 use denote.Shadow.{shadow}
 use Rattle.semver_req.specs.PieceSteps.{AreRead}
 use Rattle.semver_req.specs.Pieces.{AreMorePieces}
-use Rattle.semver_req.proofs.range_set_or_tag.pieces.read_pieces.Given as goal
+use Rattle.semver_req.proofs.range_set_or_tag.RangeSetOrTag.parse_pieces.Given as goal
 
 abbrev pub invariant-loop-piece : goal.invariant-loop-piece
 invariant-loop-piece l = record {
