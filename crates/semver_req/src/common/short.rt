@@ -149,22 +149,6 @@ fn upper_bound(text: &[u8]) -> Option<ReleaseBound>
     short_partial(after_gap(rest), Flavour::Normal)?.less_than(kind)
 }
 
-// The range of the whole text, if it is two short partial versions around ` - `.
-#[inline(always)]
-fn short_hyphen(text: &str) -> Option<ReleaseRange>
-    ensures { IfSome result (λ range. IsShortPiece Npm text.now (release_range range)) }
-{
-    let (front, back) = text.split_once(' ')?;
-    let back = after(after(back, '-')?, ' ')?;
-    let lower = short_partial(front.as_bytes(), Flavour::Npm)?;
-    let upper = short_partial(back.as_bytes(), Flavour::Npm)?;
-    let end = upper.upper_bound()?;
-    Some(ReleaseRange {
-        start: ReleaseBound::inclusive(lower.lowest()),
-        end: Some(end),
-    })
-}
-
 // The range of the whole text, if it is one or two bounds, or a hyphen range of npm's grammar. In a call of its own, so that plain texts
 // don't pay for it.
 #[inline(never)]
@@ -185,10 +169,19 @@ fn bounds(text: &str, flavour: Flavour) -> Option<ReleaseRange>
         let start = lower_bound(front.strip_suffix(' ')?.as_bytes())?;
         return ReleaseRange::between(start, end);
     }
-    if flavour == Flavour::Npm {
-        if let Some(range) = short_hyphen(text) {
-            return Some(range);
-        }
+    if flavour == Flavour::Npm
+        && let Some((front, back)) = text.split_once(' ')
+        && let Some(back) = after(back, '-')
+        && let Some(back) = after(back, ' ')
+        && let Some(lower) = short_partial(front.as_bytes(), Flavour::Npm)
+        && let Some(upper) = short_partial(back.as_bytes(), Flavour::Npm)
+        && let Some(end) = upper.upper_bound()
+    {
+        let start = ReleaseBound::inclusive(lower.lowest());
+        return Some(ReleaseRange {
+            start,
+            end: Some(end),
+        });
     }
     let start = lower_bound(text.as_bytes())?;
     Some(ReleaseRange { start, end: None })

@@ -1,8 +1,10 @@
-use Rattle.std.proofs.Common.{◌≡◌, ◌++◌, ◌∷◌, ◌∙◌, [], Some, ap, append_assoc, arith, refl, rules}
+use Rattle.std.proofs.Common.{◌≡◌, ◌++◌, ◌∷◌, ◌∙◌, [], ℕ, List, Some, ap, append_assoc, arith, refl, rules}
 use Rattle.std.proofs.lemmas.Option.{IfSome_then}
 use Rattle.std.proofs.lemmas.Str.Pattern.{strip_suffix_char}
+use Rattle.semver_base.specs.PartialTable.{release_range}
+use Rattle.semver_req.specs.ShortComparators.{IsShortHyphen}
 use Rattle.semver_req.specs.declared.common.values.Flavour.TheVariants.{Npm}
-use Rattle.semver_req.proofs.ShortComparators.{behind_nothing, end_piece, pair_piece, parts_at, piece_wider, start_piece}
+use Rattle.semver_req.proofs.ShortComparators.{behind_nothing, end_piece, hyphen_piece, pair_piece, parts_at, piece_wider, start_piece}
 use Rattle.semver_req.proofs.common.short.bounds.Goals as goal
 
 pub returns-then-is_empty : goal.returns-then-is_empty
@@ -22,8 +24,16 @@ returns-in-Some c = λ cuts.
     let whole = at_less ∙ (ap (λ t. t ++ (60 ∷ back)) at_space ∙ append_assoc front (32 ∷ []) (60 ∷ back)) in
     IfSome_then c.between-in-Some.result c.between-in-Some.ensures.range (λ range h. piece_wider c.args.flavour cuts (rw h.0 (pair_piece whole start end h.1)))
 
-pub returns-in-Some-short_hyphen : goal.returns-in-Some-short_hyphen
-returns-in-Some-short_hyphen c = λ cuts. let npm : c.args.flavour ≡ Npm = search rules in rw npm c.in-Some-short_hyphen.ensures
-
 pub returns : goal.returns
-returns c = λ cuts. piece_wider c.args.flavour cuts (start_piece (rw c.as_bytes-2.ensures.value at c.in_ok-start-2.ensures))
+returns c = λ cuts.
+    let npm : c.args.flavour ≡ Npm = search rules in
+    let front = c.in-Some-split_once.front.now in
+    let back = c.in-Some-after-2.back.now in
+    let at_space = parts_at 32 (omega arith) c.args.text.now (Some (c.in-Some-split_once.front, c.in-Some-split_once.back)) c.in-Some-split_once.ensures.cases in
+    let behind = ap (λ (t : List ℕ). front ++ (32 ∷ t)) (c.in-Some-after.ensures ∙ ap (λ (t : List ℕ). 45 ∷ t) c.in-Some-after-2.ensures) in
+    let range = release_range (record { start = c.inclusive-start.result; end = Some c.in-Some-upper_bound.end }) in
+    let pair : IsShortHyphen front back range = search rules in
+    rw npm (hyphen_piece (at_space ∙ behind) pair)
+
+pub returns-2 : goal.returns-2
+returns-2 c = λ cuts. piece_wider c.args.flavour cuts (start_piece (rw c.as_bytes-4.ensures.value at c.in_ok-start-2.ensures))
