@@ -5,7 +5,7 @@
 
 ghost use Rattle.std.specs.Prelude.{◌≡◌, ◌↔◌, ◌<◌, ◌++◌, [], ◌∷◌, IfOk, IsTrue, OnOk};
 ghost use Rattle.semver_base.specs.Grammar.{CutsRun, IsAfter, IsLongest, Reads, ReadsAs, answer_of};
-ghost use Rattle.semver_base.specs.Lexical.{IsWhitespace, IsBuild, IsIdentifiers, IsLooseNumber, IsNumber, IsPre, IsQualifier, is_identifier_byte, sized};
+ghost use Rattle.semver_base.specs.Lexical.{IsWhitespace, IsIdentifiers, IsLooseNumber, IsNumber, IsQualifier, is_identifier_byte, sized};
 
 pub mod values;
 
@@ -144,35 +144,6 @@ fn identifiers(
     Ok(Some((CowVec::of_two(alloc, first, second)?, rest)))
 }
 
-// Parses a pre-release: identifiers after a `-`, which the loose grammar may omit.
-#[inline(always)]
-fn pre(
-    alloc: Global,
-    text: &str,
-    strictness: Strictness,
-) -> Result<Option<(CowVec<SmallStackString>, &str)>, AllocError>
-    ensures { IfOk result (λ r. Reads (IsPre strictness) text.now (answer_of r)) }
-{
-    if let Some(rest) = after(text, '-') {
-        return identifiers(alloc, rest);
-    }
-    match strictness {
-        Strictness::Loose => identifiers(alloc, text),
-        Strictness::Strict => Ok(None),
-    }
-}
-
-// Parses a build: identifiers after a `+`.
-#[inline(always)]
-fn build(alloc: Global, text: &str) -> Result<Option<(CowVec<SmallStackString>, &str)>, AllocError>
-    ensures { IfOk result (λ r. Reads IsBuild text.now (answer_of r)) }
-{
-    match after(text, '+') {
-        Some(rest) => identifiers(alloc, rest),
-        None => Ok(None),
-    }
-}
-
 /// Parses an optional pre-release and then an optional build. Fails only out of memory, as both may be absent.
 #[inline(always)]
 pub fn qualifier(
@@ -182,7 +153,18 @@ pub fn qualifier(
 ) -> Result<(Qualifier, &str), AllocError>
     ensures { IfOk result (λ r. IsLongest (IsQualifier strictness) text.now r.0 r.1.now) }
 {
-    let (pre, rest) = pre(alloc, text, strictness)?.unwrap_or((CowVec::new(alloc), text));
-    let (build, rest) = build(alloc, rest)?.unwrap_or((CowVec::new(alloc), rest));
+    // A pre-release is identifiers after a `-`, which the loose grammar may omit.
+    let pre = match (after(text, '-'), strictness) {
+        (Some(rest), _) => identifiers(alloc, rest),
+        (None, Strictness::Loose) => identifiers(alloc, text),
+        (None, Strictness::Strict) => Ok(None),
+    };
+    let (pre, rest) = pre?.unwrap_or((CowVec::new(alloc), text));
+    // A build is identifiers after a `+`.
+    let build = match after(rest, '+') {
+        Some(more) => identifiers(alloc, more),
+        None => Ok(None),
+    };
+    let (build, rest) = build?.unwrap_or((CowVec::new(alloc), rest));
     Ok((Qualifier { pre, build }, rest))
 }
