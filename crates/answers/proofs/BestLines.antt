@@ -1,5 +1,5 @@
 -- The best match of lines, some of which have no version.
-use Rattle.std.proofs.Common.{◌≡◌, ℕ, List, Bool, Option, Some, None, Bor, refl, is_lt}
+use Rattle.std.proofs.Common.{◌≡◌, ℕ, Bool, Option, Some, None, Bor, refl, is_lt}
 use Rattle.std.proofs.lemmas.List.MinMax.{IsStrictWeakOrder-flip, ranks_by}
 use Rattle.std.specs.Cmp.{IsStrictWeakOrder}
 use Rattle.std.specs.Cmp.Lexicographic.{options_total}

@@ -8,7 +8,6 @@ use Rattle.semver_req.specs.declared.common.values.Flavour.{Flavour}
 use Rattle.semver_req.specs.declared.range_set_or_tag.RangeSetOrTag.{RangeSetOrTag}
 use Rattle.answers.specs.Asking.{IsAnswer, problem_of}
 use Rattle.answers.specs.Reading.{IsRangeAt, IsRangeOutcome}
-use Rattle.answers.specs.declared.asking.Kind.{Kind}
 use Rattle.answers.specs.declared.asking.Kind.TheVariants as kind
 use Rattle.answers.specs.ReadingLaws.{was_not_parsed, was_parsed}
 

@@ -1,17 +1,16 @@
 //! What is wrong with a range, and where, as JSON.
 
-ghost use Rattle.std.specs.Prelude.{◌≡◌, IfOk, map, string_bytes};
-ghost use Rattle.serde_json.specs.Data.{string};
+ghost use Rattle.std.specs.Prelude.{◌≡◌, IfOk, string_bytes};
 ghost use Rattle.serde_json.specs.View.{view};
 ghost use Rattle.serde_json.specs.Written.{compact_text};
 ghost use Rattle.semver_req.specs.InvalidPieces.{AreInvalidPieces};
 ghost use Rattle.semver_req.specs.Viable.{IsErrorPlace, IsVersionText};
-ghost use Rattle.answers.specs.Errors.{IsErrorsText, error_json, errors_json, expected_json, expected_names, kind_name};
+ghost use Rattle.answers.specs.Errors.{IsErrorsText, error_json, errors_json, expected_json, kind_name};
 
 use crate::object::{Object, json_text, text_json};
 use semver_req::common::values::Flavour;
 use semver_req::error_places::causes::Cause;
-use semver_req::error_places::expected::{Expected, Kind};
+use semver_req::error_places::expected::Kind;
 use semver_req::error_places::pieces::{InvalidPiece, invalid_pieces};
 use semver_req::error_places::version_error_place;
 use serde_json::Value;
@@ -29,32 +28,23 @@ pub fn kind_name(kind: Kind) -> &'static str
     }
 }
 
-// The names of what is expected.
-fn expected_names(alloc: Global, expected: &Expected) -> Result<Vec<Value>, AllocError>
-    ensures { IfOk result
-        (λ names. map view names.items ≡ map string (expected_names expected.now)) }
-{
-    let mut names = Vec::new(alloc);
-    let kinds = expected.kinds.as_slice();
-    for kind in kinds {
-        names.push(text_json(alloc, kind_name(*kind))?)?;
-    }
-    if !expected.may_end {
-        return Ok(names);
-    }
-    names.push(text_json(alloc, "end")?)?;
-    Ok(names)
-}
-
 /// Returns what is expected at the place of an error, as JSON: the names of kinds of text, and `end` if the text may end there. Nothing
 /// is if the alternative is wrong in another way.
 pub fn expected_json(alloc: Global, cause: &Cause) -> Result<Value, AllocError>
     ensures { IfOk result (λ json. view json ≡ expected_json cause.now) }
 {
-    match cause {
-        Cause::Unexpected(expected) => Ok(Value::Array(expected_names(alloc, expected)?)),
-        _ => Ok(Value::Array(Vec::new(alloc))),
+    let mut names = Vec::new(alloc);
+    let Cause::Unexpected(expected) = cause else {
+        return Ok(Value::Array(names));
+    };
+    let kinds = expected.kinds.as_slice();
+    for kind in kinds {
+        names.push(text_json(alloc, kind_name(*kind))?)?;
     }
+    if expected.may_end {
+        names.push(text_json(alloc, "end")?)?;
+    }
+    Ok(Value::Array(names))
 }
 
 /// Returns an error as JSON: where it is, where its alternative ends, why that is invalid, and what is expected in its place.
@@ -69,22 +59,15 @@ pub fn error_json(alloc: Global, error: &InvalidPiece) -> Result<Value, AllocErr
         .into_json()
 }
 
-// The JSON of errors.
-fn errors_json(alloc: Global, errors: &[InvalidPiece]) -> Result<Value, AllocError>
-    ensures { IfOk result (λ json. view json ≡ errors_json errors.now) }
+/// Returns errors as the text of a JSON array.
+pub fn errors_text(alloc: Global, errors: &[InvalidPiece]) -> Result<String, AllocError>
+    ensures { IfOk result (λ text. string_bytes text ≡ compact_text (errors_json errors.now)) }
 {
     let mut items = Vec::new(alloc);
     for error in errors {
         items.push(error_json(alloc, error)?)?;
     }
-    Ok(Value::Array(items))
-}
-
-/// Returns errors as the text of a JSON array.
-pub fn errors_text(alloc: Global, errors: &[InvalidPiece]) -> Result<String, AllocError>
-    ensures { IfOk result (λ text. string_bytes text ≡ compact_text (errors_json errors.now)) }
-{
-    json_text(alloc, errors_json(alloc, errors))
+    json_text(alloc, Ok(Value::Array(items)))
 }
 
 /// The invalid alternatives of the text of a range, in their order, with what is wrong in each and where. A tag isn't a range, so it is

@@ -6,7 +6,7 @@ ghost use Rattle.serde_json.specs.Data.{array, string};
 ghost use Rattle.serde_json.specs.View.{items_of, view};
 ghost use Rattle.semver_req.specs.TextRejection.{IsTextRejection};
 ghost use Rattle.answers.specs.Asking.{IsFailureAt, IsOneAnswer};
-ghost use Rattle.answers.specs.ExplainedJson.{Explains, alternative_json, alternatives_json, error_for, error_or_null, errors_behind, have_same_numbers, left_out_json, lowest_json, matches_json, numbers_text, option_list, pre_release_of, pre_releases, pre_releases_json, ranges_explained};
+ghost use Rattle.answers.specs.ExplainedJson.{Explains, alternatives_json, error_for, errors_behind, matches_json, numbers_text, option_list, pre_release_of, pre_releases, ranges_explained};
 ghost use Rattle.answers.specs.Filtering.{list_answer};
 ghost use Rattle.answers.specs.declared.asking.Kind.TheVariants as kind;
 
@@ -34,12 +34,6 @@ fn pre_release_of(bound: &RangeBound, matches: bool) -> Option<&Version>
     }
 }
 
-fn have_same_numbers(one: &Version, other: &Version) -> bool
-    ensures { result ≡ have_same_numbers one.now other.now }
-{
-    one.major == other.major && one.minor == other.minor && one.patch == other.patch
-}
-
 impl Matches {
     /// Returns versions of whose three numbers pre-releases match by npm's rule: bounds that are pre-releases, but not two with the same
     /// numbers.
@@ -49,10 +43,12 @@ impl Matches {
     {
         let first = pre_release_of(&self.range.start, self.pre_of_start);
         let second = pre_release_of(&self.range.end, self.pre_of_end);
-        match (first, second) {
-            (Some(one), Some(other)) if have_same_numbers(one, other) => (first, None),
-            both => both,
+        if let (Some(one), Some(other)) = (first, second) {
+            if one.major == other.major && one.minor == other.minor && one.patch == other.patch {
+                return (first, None);
+            }
         }
+        (first, second)
     }
 }
 
@@ -73,34 +69,6 @@ fn push_numbers(
     Ok(())
 }
 
-// The numbers of which pre-releases match, or that all do.
-fn pre_releases_json(
-    alloc: Global,
-    pre_release: PreRelease,
-    matches: &Matches,
-) -> Result<Value, AllocError>
-    ensures { IfOk result (λ json. view json ≡ pre_releases_json pre_release matches.now) }
-{
-    if pre_release == PreRelease::Admitted {
-        return text_json(alloc, "all");
-    }
-    let (first, second) = matches.pre_releases();
-    let mut items = Vec::new(alloc);
-    push_numbers(alloc, &mut items, first)?;
-    push_numbers(alloc, &mut items, second)?;
-    Ok(Value::Array(items))
-}
-
-// The version as displayed, or null.
-fn lowest_json(alloc: Global, lowest: &Option<Version>) -> Result<Value, AllocError>
-    ensures { IfOk result (λ json. view json ≡ lowest_json lowest.now) }
-{
-    match lowest {
-        Some(version) => displayed_json(alloc, version),
-        None => Ok(Value::Null),
-    }
-}
-
 // An alternative that is a range.
 fn matches_json(
     alloc: Global,
@@ -110,56 +78,26 @@ fn matches_json(
 ) -> Result<Value, AllocError>
     ensures { IfOk result (λ json. view json ≡ matches_json pre_release text.now matches.now) }
 {
+    let pre_releases = if pre_release == PreRelease::Admitted {
+        text_json(alloc, "all")
+    } else {
+        let (first, second) = matches.pre_releases();
+        let mut items = Vec::new(alloc);
+        push_numbers(alloc, &mut items, first)?;
+        push_numbers(alloc, &mut items, second)?;
+        Ok(Value::Array(items))
+    };
+    let lowest = match &matches.lowest {
+        Some(version) => displayed_json(alloc, version),
+        None => Ok(Value::Null),
+    };
     Object::new(alloc)
         .put("end", bound_json(alloc, &matches.range.end))
-        .put("lowest", lowest_json(alloc, &matches.lowest))
-        .put(
-            "pre-releases",
-            pre_releases_json(alloc, pre_release, matches),
-        )
+        .put("lowest", lowest)
+        .put("pre-releases", pre_releases)
         .put("start", bound_json(alloc, &matches.range.start))
         .put_text("text", Some(text))
         .into_json()
-}
-
-fn error_or_null(alloc: Global, error: Option<&InvalidPiece>) -> Result<Value, AllocError>
-    ensures { IfOk result (λ json. view json ≡ error_or_null (option_copied error.entry)) }
-{
-    match error {
-        Some(error) => error_json(alloc, error),
-        None => Ok(Value::Null),
-    }
-}
-
-// An alternative that is left out.
-fn left_out_json(
-    alloc: Global,
-    text: &str,
-    error: Option<&InvalidPiece>,
-) -> Result<Value, AllocError>
-    ensures { IfOk result
-        (λ json. view json ≡ left_out_json text.now (option_copied error.entry)) }
-{
-    Object::new(alloc)
-        .put("error", error_or_null(alloc, error))
-        .put_text("text", Some(text))
-        .into_json()
-}
-
-fn alternative_json(
-    alloc: Global,
-    pre_release: PreRelease,
-    piece: &Piece,
-    error: Option<&InvalidPiece>,
-) -> Result<Value, AllocError>
-    ensures { IfOk result (λ json. view json
-        ≡ alternative_json pre_release piece.now (option_copied error.entry)) }
-{
-    let text = piece.text.as_str().trim();
-    match &piece.meaning {
-        Meaning::Range(matches) => matches_json(alloc, pre_release, text, matches),
-        Meaning::LeftOut(_) => left_out_json(alloc, text, error),
-    }
 }
 
 /// Returns the error of an alternative, if it is left out and these are the errors from there on; and the errors of the alternatives behind
@@ -191,7 +129,21 @@ fn alternatives_json(
     let mut rest = errors;
     for piece in pieces {
         let (error, behind) = next_error(&piece.meaning, rest);
-        items.push(alternative_json(alloc, pre_release, piece, error)?)?;
+        let text = piece.text.as_str().trim();
+        let alternative = match &piece.meaning {
+            Meaning::Range(matches) => matches_json(alloc, pre_release, text, matches),
+            Meaning::LeftOut(_) => {
+                let error = match error {
+                    Some(error) => error_json(alloc, error),
+                    None => Ok(Value::Null),
+                };
+                Object::new(alloc)
+                    .put("error", error)
+                    .put_text("text", Some(text))
+                    .into_json()
+            }
+        };
+        items.push(alternative?)?;
         rest = behind;
     }
     Ok(Value::Array(items))

@@ -3,7 +3,7 @@
 ghost use Rattle.std.specs.Prelude.{◌≡◌, IfOk, false, string_bytes};
 ghost use Rattle.std.specs.Option.{option_copied};
 ghost use Rattle.serde_json.specs.Data.{Data, Members, no_members, object, put as with_member, string};
-ghost use Rattle.serde_json.specs.View.{members_view, view};
+ghost use Rattle.serde_json.specs.View.{view};
 ghost use Rattle.serde_json.specs.Written.{compact_text, has_float};
 ghost use Rattle.answers.specs.Object.{Has, text_or_null};
 
@@ -45,22 +45,6 @@ pub fn json_text(alloc: Global, json: Result<Value, AllocError>) -> Result<Strin
     }
 }
 
-// The members and one more; an earlier error stays.
-fn with_member(
-    alloc: Global,
-    members: Result<Map<String, Value>, AllocError>,
-    key: &str,
-    value: Result<Value, AllocError>,
-) -> Result<Map<String, Value>, AllocError>
-    ensures { (all : Members) (d : Data) → IfOk members (λ map. members_view map.entries ≡ all)
-        → IfOk value (λ value. view value ≡ d)
-        → IfOk result (λ map. members_view map.entries ≡ with_member key.now d all) }
-{
-    let mut members = members?;
-    put(&mut members, alloc, key, value?)?;
-    Ok(members)
-}
-
 impl Object {
     /// Starts without members.
     pub fn new(alloc: Global) -> Object
@@ -72,16 +56,19 @@ impl Object {
         }
     }
 
-    /// Adds a member.
+    /// Adds a member; an earlier error stays.
     pub fn put(self, key: &str, value: Result<Value, AllocError>) -> Object
         ensures { (all : Members) (d : Data) → Has self all → IfOk value (λ value. view value ≡ d)
             → Has result (with_member key.now d all) }
     {
         let Object { members, alloc } = self;
-        Object {
-            members: with_member(alloc, members, key, value),
-            alloc,
-        }
+        let members = match (members, value) {
+            (Ok(mut members), Ok(value)) => {
+                put(&mut members, alloc, key, value).map(|_| members)
+            }
+            _ => Err(AllocError),
+        };
+        Object { members, alloc }
     }
 
     /// Adds a text, or null.

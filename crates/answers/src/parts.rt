@@ -10,7 +10,7 @@ ghost use Rattle.std.specs.Fmt.{decimal};
 ghost use Rattle.std.specs.Str.{trim};
 ghost use Rattle.answers.specs.Asking.{IsAnswer, IsFailureAt};
 ghost use Rattle.answers.specs.Filtering.{list_answer};
-ghost use Rattle.answers.specs.Parts.{RangeParts, VersionParts, bound_json, range_json, ranges_json, texts_json, version_json};
+ghost use Rattle.answers.specs.Parts.{RangeParts, VersionParts, bound_json, ranges_json, texts_json, version_json};
 ghost use Rattle.answers.specs.declared.asking.Kind.TheVariants as kind;
 
 use crate::asking::{Answer, Problem};
@@ -88,23 +88,17 @@ pub fn bound_json(alloc: Global, bound: &RangeBound) -> Result<Value, AllocError
     }
 }
 
-// The JSON of a range: its bounds.
-fn range_json(alloc: Global, range: &VersionRange) -> Result<Value, AllocError>
-    ensures { IfOk result (λ json. view json ≡ range_json range.now) }
-{
-    Object::new(alloc)
-        .put("end", bound_json(alloc, &range.end))
-        .put("start", bound_json(alloc, &range.start))
-        .into_json()
-}
-
-// The JSON of ranges.
+// The JSON of ranges: their bounds.
 fn ranges_json(alloc: Global, ranges: &[VersionRange]) -> Result<Value, AllocError>
     ensures { IfOk result (λ json. view json ≡ ranges_json ranges.now) }
 {
     let mut items = Vec::new(alloc);
     for range in ranges {
-        items.push(range_json(alloc, range)?)?;
+        let bounds = Object::new(alloc)
+            .put("end", bound_json(alloc, &range.end))
+            .put("start", bound_json(alloc, &range.start))
+            .into_json();
+        items.push(bounds?)?;
     }
     Ok(Value::Array(items))
 }

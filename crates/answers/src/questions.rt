@@ -8,13 +8,10 @@ ghost use Rattle.std.specs.Option.{option_copied};
 ghost use Rattle.std.specs.Str.{trim};
 ghost use Rattle.semver_base.specs.VersionGrammar.{IsVersionRejection};
 ghost use Rattle.semver_base.specs.VersionText.{version_text};
-ghost use Rattle.semver_req.specs.Parsers.{IsReadOrTag};
-ghost use Rattle.semver_req.specs.Requirement.{inner_means_with, tag_of};
 ghost use Rattle.semver_req.specs.TextRejection.{IsTextRejection};
-ghost use Rattle.semver_req.specs.Resolve.{IsBestMatch, IsOnlyMatch};
 ghost use Rattle.answers.specs.Asking.{IsAnswer, IsFailureAt};
 ghost use Rattle.answers.specs.declared.asking.Kind.TheVariants as kind;
-ghost use Rattle.answers.specs.Questions.{BestMatch, Canonical, Common, Displayed, Equivalent, EquivalentOf, Matches, Orders, Outside, Overlaps, better, first_tag, match_of};
+ghost use Rattle.answers.specs.Questions.{BestMatch, Canonical, Common, Displayed, Equivalent, Matches, Orders, Outside, Overlaps, better, first_tag, match_of};
 ghost use Rattle.answers.specs.Reading.{IsFailureAmong, texts_of};
 
 use crate::asking::{Answer, Problem};
@@ -100,25 +97,6 @@ pub fn matches(
     Ok(match_of(alloc, pre_release, &range, &version)?)
 }
 
-// The place of the first of the versions at this end of the order that match.
-fn place_of_best(
-    end: End,
-    pre_release: PreRelease,
-    range: &VersionReq,
-    versions: &[Version],
-) -> Option<usize>
-    requires { tag_of range.now.inner ≡ None }
-    ensures best { IsBestMatch (better end)
-        (λ v. inner_means_with pre_release range.now.inner v) versions.now result }
-    ensures only { IsOnlyMatch (better end)
-        (λ v. inner_means_with pre_release range.now.inner v) versions.now result }
-{
-    match end {
-        End::Highest => max_satisfying_with(versions, range, pre_release),
-        End::Lowest => min_satisfying_with(versions, range, pre_release),
-    }
-}
-
 /// Which of the versions is the highest or lowest that matches the range? Of those that differ only in the build, the first.
 pub fn best_match(
     alloc: Global,
@@ -141,7 +119,11 @@ pub fn best_match(
     if let Some(tag) = range.tag() {
         return Ok(Answer::Tag(PackageTag::from_str(alloc, tag)?));
     }
-    match place_of_best(end, pre_release, &range, versions.as_slice()) {
+    let place = match end {
+        End::Highest => max_satisfying_with(versions.as_slice(), &range, pre_release),
+        End::Lowest => min_satisfying_with(versions.as_slice(), &range, pre_release),
+    };
+    match place {
         Some(place) => {
             let version = versions.remove(place);
             Ok(Answer::Value(Some(Best { place, version })))
@@ -215,24 +197,6 @@ pub fn version_outside(
     Ok(Answer::Value(lowest))
 }
 
-// Whether the two ranges match the same versions.
-fn equivalent_of(
-    alloc: Global,
-    pre_release: PreRelease,
-    one: &VersionReq,
-    other: &VersionReq,
-) -> Result<Answer<bool>, Problem>
-    requires one_read { IsReadOrTag one.now.inner }
-    requires other_read { IsReadOrTag other.now.inner }
-    ensures { IsAnswer (EquivalentOf pre_release one.now other.now) (λ answer. answer) result }
-{
-    if let Some(tag) = one.tag().or(other.tag()) {
-        return Ok(Answer::Tag(PackageTag::from_str(alloc, tag)?));
-    }
-    let same = one.is_equivalent(alloc, other, pre_release)?;
-    Ok(Answer::Value(same))
-}
-
 /// Do the two ranges match the same versions?
 pub fn equivalent(
     alloc: Global,
@@ -249,7 +213,11 @@ pub fn equivalent(
 {
     let one = range(alloc, flavour, 0, one_text)?;
     let other = range(alloc, flavour, 1, other_text)?;
-    equivalent_of(alloc, pre_release, &one, &other)
+    if let Some(tag) = one.tag().or(other.tag()) {
+        return Ok(Answer::Tag(PackageTag::from_str(alloc, tag)?));
+    }
+    let same = one.is_equivalent(alloc, &other, pre_release)?;
+    Ok(Answer::Value(same))
 }
 
 /// What is the canonical form of the range? That of a tag is the tag.

@@ -94,6 +94,11 @@ module _ (kind : PackageKind) (text : List ℕ) (e : PackageReqReferenceParseErr
       (inner, refl, subst (Reports Specifier inner) source h.1)
   has_bad_text (VersionInPath current suggested) value h is = cc (h, is)
 
+  pub no_memory : (fault : ReferenceFault) → ReportsReference kind text fault e → unboxed e ≡ error.Memory → ⊥
+  no_memory OtherScheme h is = cc (h, is)
+  no_memory (BadText fault) h is = cc (h.2, is)
+  no_memory (VersionInPath current suggested) h is = cc (h, is)
+
 -- ---- behind the scheme
 
 module _ (kind : PackageKind) (text : List ℕ) (body : List ℕ) (body_is : (b : List ℕ) → text ≡ scheme_of kind ++ b → body ≡ b) where

@@ -3,9 +3,9 @@
 ghost use Rattle.std.specs.Prelude.{◌≡◌, IfOk, Result, is_err, is_some, string_bytes};
 ghost use Rattle.std.specs.Option.{option_copied, option_map};
 ghost use Rattle.deno_semver.specs.PackageOutcome.{PackageFault, IsPackageOutcome};
-ghost use Rattle.deno_semver.specs.ReferenceOutcome.{ReferenceFault, unboxed};
+ghost use Rattle.deno_semver.specs.ReferenceOutcome.{ReferenceFault};
 ghost use Rattle.deno_semver.specs.declared.package.values.PackageReq.{PackageReq};
-ghost use Rattle.package_answers.specs.Faults.{IsFaultText, IsPackageFault, IsReferenceFault, parts_kind, suggestion};
+ghost use Rattle.package_answers.specs.Faults.{IsFaultText, IsPackageFault, IsReferenceFault, parts_kind};
 ghost use Rattle.package_answers.specs.References.{IsRegistryOutcome};
 ghost use Rattle.package_answers.specs.declared.references.Reference.{Reference};
 
@@ -29,25 +29,6 @@ fn parts_kind(error: &PackageReqPartsParseError) -> &'static str
         PackageReqPartsParseError::NpmVersionReq(_) => "NpmVersionReq",
         PackageReqPartsParseError::NormalizedVersionReq(_) => "NormalizedVersionReq",
         PackageReqPartsParseError::Memory => "Memory",
-    }
-}
-
-// The text that a reference's error suggests, if it suggests one.
-fn suggestion(
-    alloc: Global,
-    error: &PackageReqReferenceParseError,
-) -> Result<Option<String>, AllocError>
-    ensures { IfOk result
-        (λ text. option_map string_bytes text ≡ suggestion (unboxed error.now)) }
-{
-    match error {
-        PackageReqReferenceParseError::NotExpectedScheme(_) => Ok(None),
-        PackageReqReferenceParseError::Invalid(_) => Ok(None),
-        PackageReqReferenceParseError::InvalidPathWithVersion(error) => {
-            let (scheme, suggested) = (error.kind.scheme_with_colon(), &error.suggested);
-            Ok(Some(format!(in alloc; "{scheme}{suggested}")?))
-        }
-        PackageReqReferenceParseError::Memory => Ok(None),
     }
 }
 
@@ -112,13 +93,15 @@ pub fn reference_fault(alloc: Global, text: &str) -> Result<Option<String>, Allo
         Ok(_reference) => Ok(None),
         Err(error) => {
             let failure = reference_failure(alloc, &error);
-            let suggested = suggestion(alloc, &error)?;
-            let kind = match &error {
-                PackageReqReferenceParseError::NotExpectedScheme(_) => "NotExpectedScheme",
-                PackageReqReferenceParseError::Invalid(error) => parts_kind(&error.source),
-                PackageReqReferenceParseError::InvalidPathWithVersion(_) =>
-                    "InvalidPathWithVersion",
-                PackageReqReferenceParseError::Memory => "Memory",
+            let (kind, suggested) = match &error {
+                PackageReqReferenceParseError::NotExpectedScheme(_) => ("NotExpectedScheme", None),
+                PackageReqReferenceParseError::Invalid(error) => (parts_kind(&error.source), None),
+                PackageReqReferenceParseError::InvalidPathWithVersion(error) => {
+                    let (scheme, path) = (error.kind.scheme_with_colon(), &error.suggested);
+                    let text = format!(in alloc; "{scheme}{path}")?;
+                    ("InvalidPathWithVersion", Some(text))
+                }
+                PackageReqReferenceParseError::Memory => ("Memory", None),
             };
             Ok(Some(fault_text(alloc, kind, &failure, suggested.as_deref())?))
         }

@@ -1,15 +1,13 @@
 //! The text of a reference to a package, such as `jsr:@scope/name@1/mod.ts`.
 
-ghost use Rattle.std.specs.Prelude.{◌≡◌, ◌⊎◌, ◌≤◌, ◌++◌, Err, List, ℕ, IfErr, IfOk, MatchOption, None, Ok, Result, length, string_bytes};
+ghost use Rattle.std.specs.Prelude.{◌≡◌, ◌⊎◌, Err, IfErr, IfOk, None, Ok, Result, string_bytes};
 ghost use Rattle.std.specs.Option.{option_copied};
 ghost use Rattle.serde_json.specs.View.{view};
-ghost use Rattle.deno_semver.specs.Kind.{scheme_of};
-ghost use Rattle.deno_semver.specs.PackageOutcome.{BadVersion};
-ghost use Rattle.deno_semver.specs.ReferenceOutcome.{BadText, IsReferenceAnswer, IsReferenceOutcome, IsReferenceRejection, ReferenceFault, ReportsReference, unboxed};
+ghost use Rattle.deno_semver.specs.ReferenceOutcome.{IsReferenceAnswer, IsReferenceOutcome, IsReferenceRejection, ReferenceFault, unboxed};
 ghost use Rattle.deno_semver.specs.declared.package.reference.PackageReqReference.{PackageReqReference};
 ghost use Rattle.answers.specs.Asking.{IsAnswer, IsFailureAt};
 ghost use Rattle.answers.specs.Object.{text_or_null};
-ghost use Rattle.package_answers.specs.References.{AreReferenceErrors, IsReference, IsReferenceErrorsText, IsReferenceFailure, IsReferenceFaultAt, IsRegistryOf, ReferenceParts, export_of, registry_text, reference_failure, reference_json};
+ghost use Rattle.package_answers.specs.References.{AreReferenceErrors, IsReference, IsReferenceErrorsText, IsReferenceFailure, IsRegistryOf, ReferenceParts, export_of, registry_text, reference_failure, reference_json};
 ghost use Rattle.answers.specs.declared.asking.Kind.TheVariants as kind;
 
 use crate::errors::{PackageErrors, Part, errors_text};
@@ -178,35 +176,6 @@ pub fn reference_parts(alloc: Global, text: &str) -> Result<String, Problem>
     Ok(json_text(alloc, reference_json(alloc, &read))?)
 }
 
-// Where the text of a reference, with this body behind its scheme, has the fault that its parser reports, and which part is missing there;
-// `None` if its range is invalid.
-fn reference_place(
-    text: &str,
-    body: &str,
-    error: &PackageReqReferenceParseError,
-) -> Option<(usize, Option<Part>)>
-    requires { length body.now ≤ length text.now }
-    ensures { (kind : PackageKind) (fault : ReferenceFault)
-        → IsReferenceOutcome kind text.now (Err fault)
-        → ReportsReference kind text.now fault error.now
-        → ((behind : List ℕ) → text.now ≡ scheme_of kind ++ behind → body.now ≡ behind)
-        → MatchOption result ((version : List ℕ) × (fault ≡ BadText (BadVersion version)))
-        (λ at. IsReferenceFaultAt text.now fault at.1 at.0) }
-{
-    match error {
-        PackageReqReferenceParseError::NotExpectedScheme(_) => Some((0, Some(Part::Scheme))),
-        PackageReqReferenceParseError::Invalid(error) => match fault_place(body, &error.source) {
-            Some((place, missing)) => Some((text.len() - body.len() + place, missing)),
-            None => None,
-        },
-        PackageReqReferenceParseError::InvalidPathWithVersion(_) => match text.rsplit_once('@') {
-            Some((before, _version)) => Some((before.len(), None)),
-            None => None,
-        },
-        PackageReqReferenceParseError::Memory => None,
-    }
-}
-
 /// What is wrong with the text of a reference, and where, as for [`package_errors`](crate::packages::package_errors).
 pub fn reference_errors(alloc: Global, text: &str) -> Result<PackageErrors, AllocError>
     ensures { IfOk result (AreReferenceErrors text.now) }
@@ -217,7 +186,25 @@ pub fn reference_errors(alloc: Global, text: &str) -> Result<PackageErrors, Allo
     match parse(alloc, kind, text) {
         Ok(_reference) => range_errors(alloc, Flavour::Specifier, before, body),
         Err(error) => {
-            let place = reference_place(text, body, &error);
+            // Where the error is, and which part is missing there; `None` if the range is invalid.
+            let place = match &error {
+                PackageReqReferenceParseError::NotExpectedScheme(_) => {
+                    Some((0, Some(Part::Scheme)))
+                }
+                PackageReqReferenceParseError::Invalid(error) => {
+                    match fault_place(body, &error.source) {
+                        Some((place, missing)) => Some((before + place, missing)),
+                        None => None,
+                    }
+                }
+                PackageReqReferenceParseError::InvalidPathWithVersion(_) => {
+                    match text.rsplit_once('@') {
+                        Some((path, _version)) => Some((path.len(), None)),
+                        None => None,
+                    }
+                }
+                PackageReqReferenceParseError::Memory => None,
+            };
             let failure = reference_failure(alloc, &error);
             errors_at(alloc, place, failure, Flavour::Specifier, before, body)
         }

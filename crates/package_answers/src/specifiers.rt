@@ -1,14 +1,14 @@
 //! The texts of references to one version of a package, such as `jsr:@scope/name@1.2.3/mod.ts`, and of dependencies, such as
 //! `npm:name@^1`.
 
-ghost use Rattle.std.specs.Prelude.{◌≡◌, ◌⊎◌, IfErr, IfOk, None, Ok, Result, string_bytes};
+ghost use Rattle.std.specs.Prelude.{◌≡◌, IfErr, IfOk, None, Ok, Result, string_bytes};
 ghost use Rattle.std.specs.Option.{option_copied};
 ghost use Rattle.semver_base.specs.declared.failure.Rejection.{Rejection};
 ghost use Rattle.deno_semver.specs.NvReference.{IsNvReferenceAnswer, IsNvReferenceOutcome, IsNvReferenceRejection};
 ghost use Rattle.deno_semver.specs.declared.jsr.dependency.JsrDepPackageReq.{JsrDepPackageReq};
 ghost use Rattle.deno_semver.specs.declared.package.nv_reference.PackageNvReference.{PackageNvReference};
 ghost use Rattle.answers.specs.Asking.{IsAnswer, IsFailureAt};
-ghost use Rattle.package_answers.specs.Specifiers.{DependencyParts, IsDependencyFailure, IsVersionReferenceFailure, VersionReferenceParts, dependency_failure};
+ghost use Rattle.package_answers.specs.Specifiers.{DependencyParts, IsDependencyFailure, IsVersionReferenceFailure, VersionReferenceParts};
 ghost use Rattle.answers.specs.declared.asking.Kind.TheVariants as kind;
 
 use crate::names::{message_failure, nv_json};
@@ -22,19 +22,6 @@ use deno_semver::npm::NpmPackageNvReference;
 use deno_semver::package::{PackageKind, PackageNvReference, PackageNvReferenceParseError};
 use semver_req::common::values::Flavour;
 use std::alloc::Global;
-
-// What is wrong with the text of a dependency.
-fn dependency_failure(alloc: Global, error: JsrDepPackageReqParseError) -> ParseFailure
-    ensures { (result ≡ None) ⊎ (result ≡ dependency_failure error) }
-{
-    match error {
-        JsrDepPackageReqParseError::NotExpectedScheme(_scheme) => {
-            ParseFailure::with_texts(alloc, "Neither jsr: nor npm: stands in front.", None)
-        }
-        JsrDepPackageReqParseError::PackageReqParse(error) => parts_failure(alloc, error.source),
-        JsrDepPackageReqParseError::Memory => ParseFailure::memory(),
-    }
-}
 
 /// Parses a dependency, with this grammar for its range, and returns its parts as the text of a JSON object.
 pub fn dependency_parts(alloc: Global, flavour: Flavour, text: &str) -> Result<String, Problem>
@@ -51,7 +38,15 @@ pub fn dependency_parts(alloc: Global, flavour: Flavour, text: &str) -> Result<S
     let dependency = match parsed {
         Ok(dependency) => dependency,
         Err(error) => {
-            let failure = dependency_failure(alloc, error);
+            let failure = match error {
+                JsrDepPackageReqParseError::NotExpectedScheme(_scheme) => {
+                    ParseFailure::with_texts(alloc, "Neither jsr: nor npm: stands in front.", None)
+                }
+                JsrDepPackageReqParseError::PackageReqParse(error) => {
+                    parts_failure(alloc, error.source)
+                }
+                JsrDepPackageReqParseError::Memory => ParseFailure::memory(),
+            };
             return Err(Problem::of(Kind::Reference, 0, failure));
         }
     };

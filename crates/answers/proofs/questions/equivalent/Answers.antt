@@ -1,6 +1,34 @@
+use Rattle.std.proofs.Common.{◌≡◌, ◌∙◌, ◌↔◌, IsTrue, Bool, true, false, None, Ok, Result, ap, inr, refl, rules, sym}
 use Rattle.std.proofs.lemmas.Result.{err_from_is_err_and}
+use Rattle.semver_base.specs.Containment.{AreEquivalent}
+use Rattle.semver_base.specs.declared.range.PreRelease.{PreRelease}
+use Rattle.semver_req.specs.Requirement.{Requirement, inner_means_with, tag_of}
+use Rattle.answers.specs.Asking.{Fault, IsAnswer}
+use Rattle.answers.specs.Questions.{EquivalentOf}
+use Rattle.answers.specs.declared.asking.Answer.{Answer}
+use Rattle.answers.specs.declared.asking.Answer.TheVariants.{Tag, Value}
 use Rattle.answers.specs.AskingLaws.{by_value, by_fault}
 use Rattle.answers.proofs.questions.equivalent.Goals as goal
+
+-- at most one of two booleans says whether
+same_whether : {E : Type 0} (b d : Bool) → (IsTrue b ↔ E) → (IsTrue d ↔ E) → b ≡ d
+same_whether true true h k = refl
+same_whether true false h k = absurd (cc (k.1 (h.0 refl)))
+same_whether false true h k = absurd (cc (h.1 (k.0 refl)))
+same_whether false false h k = refl
+
+abbrev as_whether : Bool → Result (Answer Bool) Fault
+as_whether same = Ok (Value same)
+
+-- without a tag, whether they match the same versions is the result
+equivalent_answer : (flag : PreRelease) (one other : Requirement) → tag_of one.inner ≡ None → tag_of other.inner ≡ None → (same : Bool) → (IsTrue same ↔ AreEquivalent (inner_means_with flag one.inner) (inner_means_with flag other.inner))
+    → IsAnswer (EquivalentOf flag one other) (λ (a : Answer Bool). a) (Ok (Value same))
+equivalent_answer flag one other none no_other same h = record {
+  is = inr (rw (none, no_other) (same, h, refl));
+  only = λ o a.
+      let found = rw (none, no_other) at a in
+      inr (ap as_whether (same_whether same found.0 h found.1) ∙ sym found.2);
+}
 
 pub returns-in_err-one-clause-answer : goal.returns-in_err-one-clause-answer
 returns-in_err-one-clause-answer c =
@@ -12,5 +40,14 @@ returns-in_err-other-clause-answer c =
     let p = err_from_is_err_and c.from_residual-in_err-other.result c.from_residual-in_err-other.ensures.1 in
     rw (p.1, p.2) (by_value _ _ _ _ c.in_ok-one.ensures.answer _ (by_fault _ _ _ _ c.in_err-other.ensures.answer))
 
+pub returns-in-Some-clause-answer : goal.returns-in-Some-clause-answer
+returns-in-Some-clause-answer c =
+    let tag : IsAnswer (EquivalentOf c.args.pre_release c.in_ok-one.one c.in_ok-other.other) (λ answer. answer) (Ok (Tag c.in_ok-from_str.field-0)) = search rules in
+    by_value _ _ _ _ c.in_ok-one.ensures.answer _ (by_value _ _ _ _ c.in_ok-other.ensures.answer _ tag)
+
 pub returns-clause-answer : goal.returns-clause-answer
-returns-clause-answer c = by_value _ _ _ _ c.in_ok-one.ensures.answer _ (by_value _ _ _ _ c.in_ok-other.ensures.answer _ (c.equivalent_of.ensures))
+returns-clause-answer c =
+    let none : tag_of c.in_ok-one.one.inner ≡ None = search rules in
+    let no_other : tag_of c.in_ok-other.other.inner ≡ None = search rules in
+    let same = equivalent_answer c.args.pre_release c.in_ok-one.one c.in_ok-other.other none no_other c.in_ok-same.same (c.in_ok-same.ensures.exact c.in_ok-one.ensures.read c.in_ok-other.ensures.read) in
+    by_value _ _ _ _ c.in_ok-one.ensures.answer _ (by_value _ _ _ _ c.in_ok-other.ensures.answer _ same)

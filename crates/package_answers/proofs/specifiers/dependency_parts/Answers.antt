@@ -1,4 +1,4 @@
-use Rattle.std.proofs.Common.{◌≡◌, Result, Ok, Err, None, ap, rules}
+use Rattle.std.proofs.Common.{◌≡◌, ◌⊎◌, Result, Ok, Err, None, ap, rules}
 use Rattle.deno_semver.specs.DependencyOutcome.{DependencyFault, IsDependencyAnswer, IsDependencyOutcome, IsDependencyRejection}
 use Rattle.deno_semver.specs.declared.jsr.dependency.JsrDepPackageReq.{JsrDepPackageReq}
 use Rattle.deno_semver.specs.declared.jsr.dependency.JsrDepPackageReqParseError.TheVariants as error
@@ -11,8 +11,9 @@ use Rattle.package_answers.proofs.specifiers.dependency_parts.Goals as goal
 
 pub returns-in-Err-clause-answer : goal.returns-in-Err-clause-answer
 returns-in-Err-clause-answer c =
-    let failure = c.dependency_failure-failure.result in
-    let none : c.in-Err.error ≡ error.Memory → failure ≡ None = λ m. none_shown failure (dependency_failure c.in-Err.error) c.dependency_failure-failure.ensures (ap dependency_failure m) in
+    let failure = c.match-error.failure in
+    let is : (failure ≡ None) ⊎ (failure ≡ dependency_failure c.in-Err.error) = search rules in
+    let none : c.in-Err.error ≡ error.Memory → failure ≡ None = λ m. none_shown failure (dependency_failure c.in-Err.error) is (ap dependency_failure m) in
     let rejected : IsDependencyRejection c.args.flavour c.args.text.now c.in-Err.error = search rules in
     let answer : (outcome : Result JsrDepPackageReq DependencyFault) → IsDependencyOutcome c.args.flavour c.args.text.now outcome → IsDependencyAnswer c.args.flavour c.args.text.now outcome (Err c.in-Err.error) = search rules in
     rw c.of.ensures (by_fault _ _ _ _ (was_not_parsed kinds.Reference 0 (IsDependencyOutcome c.args.flavour c.args.text.now) failure (by_rejection (IsDependencyOutcome c.args.flavour c.args.text.now) failure none rejected) (λ (d : JsrDepPackageReq) o. none (answer (Ok d) o))))
