@@ -101,9 +101,20 @@ impl From<AllocError> for Problem {
 pub fn run<O: Write, E: Write>(alloc: Global, arguments: &[String], out: &mut O, err: &mut E) -> u8
     ensures { IsStatus (map string_bytes arguments.now) result }
 {
-    match ask(alloc, arguments) {
-        Ok(line) => print(out, &line),
-        Err(problem) => report(err, &problem),
+    let line = match ask(alloc, arguments) {
+        Ok(line) => line,
+        Err(problem) => return report(err, &problem),
+    };
+    let (written, status) = match &line {
+        Line::Yes => (writeln!(out, "yes"), 0),
+        Line::No => (writeln!(out, "no"), 1),
+        Line::Tag(tag) => (writeln!(out, "tag {tag}"), 2),
+        Line::Text(text) => (writeln!(out, "{text}"), 0),
+        Line::NoMatch => (writeln!(out, "none"), 1),
+    };
+    match written {
+        Ok(()) => status,
+        Err(_) => 6,
     }
 }
 
@@ -225,23 +236,6 @@ fn meet(alloc: Global, arguments: &[String]) -> Result<Line, Problem>
     };
     let overlap = overlaps(alloc, Flavour::Npm, one.as_str(), other.as_str())?;
     Ok(Line::whether(overlap))
-}
-
-// Prints the line, and returns its status, or 6 if it can't be written.
-fn print<O: Write>(out: &mut O, line: &Line) -> u8
-    ensures { (result ≡ 6) ⊎ (result ≡ status_of (reported_answer line.now)) }
-{
-    let (written, status) = match line {
-        Line::Yes => (writeln!(out, "yes"), 0),
-        Line::No => (writeln!(out, "no"), 1),
-        Line::Tag(tag) => (writeln!(out, "tag {tag}"), 2),
-        Line::Text(text) => (writeln!(out, "{text}"), 0),
-        Line::NoMatch => (writeln!(out, "none"), 1),
-    };
-    match written {
-        Ok(()) => status,
-        Err(_) => 6,
-    }
 }
 
 // Reports a problem, and returns its status, which a failure to write doesn't change.
