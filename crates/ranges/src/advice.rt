@@ -62,28 +62,6 @@ fn has_match(piece: &Piece) -> bool {
     }
 }
 
-// Adds a warning for each alternative that another one contains; of two that match the same, for the second.
-fn add_contained(
-    alloc: Global,
-    warnings: &mut Warnings,
-    pieces: &[Piece],
-) -> Result<(), AllocError> {
-    for (place, piece) in pieces.iter().enumerate() {
-        for (other_place, other) in pieces.iter().enumerate() {
-            if place == other_place || !has_match(piece) || !has_match(other) {
-                continue;
-            }
-            let is_needless = is_contained(alloc, piece, other)?
-                && (other_place < place || !is_contained(alloc, other, piece)?);
-            if is_needless {
-                let (text, whole) = (piece.text.as_str().trim(), other.text.as_str().trim());
-                warnings.push(format!(in alloc; "`{whole}` contains `{text}`")?)?;
-            }
-        }
-    }
-    Ok(())
-}
-
 /// A warning about a range that node-semver, and so npm, reads in another way.
 pub fn npm_warning(range: &str) -> Option<&'static str> {
     if range.trim_end().ends_with("||") {
@@ -103,8 +81,22 @@ pub fn warnings(alloc: Global, pieces: &[Piece]) -> Result<Warnings, AllocError>
             warnings.push(warning)?;
         }
     }
-    if pieces.len() <= MANY {
-        add_contained(alloc, &mut warnings, pieces)?;
+    if pieces.len() > MANY {
+        return Ok(warnings);
+    }
+    // Of two alternatives that match the same, the second is needless.
+    for (place, piece) in pieces.iter().enumerate() {
+        for (other_place, other) in pieces.iter().enumerate() {
+            if place == other_place || !has_match(piece) || !has_match(other) {
+                continue;
+            }
+            let is_needless = is_contained(alloc, piece, other)?
+                && (other_place < place || !is_contained(alloc, other, piece)?);
+            if is_needless {
+                let (text, whole) = (piece.text.as_str().trim(), other.text.as_str().trim());
+                warnings.push(format!(in alloc; "`{whole}` contains `{text}`")?)?;
+            }
+        }
     }
     Ok(warnings)
 }

@@ -157,29 +157,19 @@ pub fn overlap<O: Write, E: Write>(
     matches: &ArgMatches<'_>,
 ) -> Result<Status, Stop> {
     let texts = matches.get_strs("RANGE").unwrap_or(&[]);
-    match ranges(console.alloc, console.options.flavour, texts) {
-        Ok(ranges) => print_overlap(console, first_apart(texts, ranges.as_slice())),
-        Err(problem) => reject(console, texts, &problem),
-    }
-}
-
-// Two texts as JSON.
-fn pair_json(alloc: Global, one: &str, other: &str) -> Result<Value, AllocError> {
-    let mut items = Vec::new(alloc);
-    items.push(Value::try_from_str(alloc, one)?)?;
-    items.push(Value::try_from_str(alloc, other)?)?;
-    Ok(Value::Array(items))
-}
-
-fn print_overlap<O: Write, E: Write>(
-    console: &mut Console<O, E>,
-    apart: Option<(&str, &str)>,
-) -> Result<Status, Stop> {
+    let apart = match ranges(console.alloc, console.options.flavour, texts) {
+        Ok(ranges) => first_apart(texts, ranges.as_slice()),
+        Err(problem) => return reject(console, texts, &problem),
+    };
     if console.options.json {
         let alloc = console.alloc;
         let json = Object::new(alloc).put("overlap", Ok(Value::Bool(apart.is_none())));
         let json = match apart {
-            Some((one, other)) => json.put("apart", pair_json(alloc, one, other)),
+            Some((one, other)) => {
+                let one = Value::try_from_str(alloc, one)?;
+                let other = Value::try_from_str(alloc, other)?;
+                json.put("apart", Ok(Value::Array(vec![in alloc; one, other]?)))
+            }
             None => json,
         };
         console.json(json.into_json())?;
@@ -202,27 +192,23 @@ pub fn normal<O: Write, E: Write>(
 ) -> Result<Status, Stop> {
     let mut status = Status::Answered;
     for text in matches.get_strs("RANGE").unwrap_or(&[]) {
-        status = status.worse(print_normal(console, text)?);
+        let range = match range(console.alloc, console.options.flavour, 0, text) {
+            Ok(range) => range,
+            Err(problem) => {
+                status = status.worse(reject(console, &[*text], &problem)?);
+                continue;
+            }
+        };
+        if let Some(tag) = range.tag() {
+            status = status.worse(print_tag(console, tag)?);
+            continue;
+        }
+        let normal = range.to_string_normalized(console.alloc)?;
+        if console.options.json {
+            console.json(field_json(console.alloc, "normal", Some(normal.as_str())))?;
+        } else {
+            print_line(&mut console.out, normal.as_str())?;
+        }
     }
     Ok(status)
-}
-
-fn print_normal<O: Write, E: Write>(
-    console: &mut Console<O, E>,
-    text: &str,
-) -> Result<Status, Stop> {
-    let range = match range(console.alloc, console.options.flavour, 0, text) {
-        Ok(range) => range,
-        Err(problem) => return reject(console, &[text], &problem),
-    };
-    if let Some(tag) = range.tag() {
-        return print_tag(console, tag);
-    }
-    let normal = range.to_string_normalized(console.alloc)?;
-    if console.options.json {
-        console.json(field_json(console.alloc, "normal", Some(normal.as_str())))?;
-    } else {
-        print_line(&mut console.out, normal.as_str())?;
-    }
-    Ok(Status::Answered)
 }

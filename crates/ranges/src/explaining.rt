@@ -182,35 +182,31 @@ fn print_pieces<O: Write, E: Write>(
     Ok(())
 }
 
-// Prints what a range is: a tag, or its alternatives.
-fn report_one<O: Write, E: Write>(console: &mut Console<O, E>, text: &str) -> Result<Status, Stop> {
-    let options = console.options;
-    match explain(console.alloc, options.flavour, options.pre_release, text) {
-        Ok(Explanation::Tag(tag)) if options.json => print_tag(console, tag.as_str()),
-        Ok(Explanation::Tag(tag)) => {
-            print_line(
-                &mut console.out,
-                format_args!("\"{tag}\": a tag, a name that a registry gives a version"),
-            )?;
-            console.question(tag.as_str());
-            Ok(Status::Tag)
-        }
-        Ok(Explanation::Ranges { pieces, normal }) => {
-            report_pieces(console, text, pieces.as_slice(), normal.as_str())
-        }
-        Err(problem) => reject(console, &[text], &problem),
-    }
-}
-
 /// `ranges explain RANGE..`: for each range the tag; or each alternative on a line, and the canonical form. The status is that of
 /// invalid arguments if an alternative is left out.
 pub fn report<O: Write, E: Write>(
     console: &mut Console<O, E>,
     matches: &ArgMatches<'_>,
 ) -> Result<Status, Stop> {
+    let (alloc, options) = (console.alloc, console.options);
     let mut status = Status::Answered;
     for text in matches.get_strs("RANGE").unwrap_or(&[]) {
-        status = status.worse(report_one(console, text)?);
+        let reported = match explain(alloc, options.flavour, options.pre_release, text) {
+            Ok(Explanation::Tag(tag)) if options.json => print_tag(console, tag.as_str())?,
+            Ok(Explanation::Tag(tag)) => {
+                print_line(
+                    &mut console.out,
+                    format_args!("\"{tag}\": a tag, a name that a registry gives a version"),
+                )?;
+                console.question(tag.as_str());
+                Status::Tag
+            }
+            Ok(Explanation::Ranges { pieces, normal }) => {
+                report_pieces(console, text, pieces.as_slice(), normal.as_str())?
+            }
+            Err(problem) => reject(console, &[*text], &problem)?,
+        };
+        status = status.worse(reported);
     }
     Ok(status)
 }

@@ -150,26 +150,6 @@ pub fn best<R: Input, O: Write, E: Write>(
     Ok(status.worse(print_version(console, listed.highest(first))?))
 }
 
-// Prints the highest version that matches, and the highest of all.
-fn print_outdated<O: Write, E: Write>(
-    console: &mut Console<O, E>,
-    matching: Option<&str>,
-    highest: Option<&str>,
-) -> Result<(), Stop> {
-    if console.options.json {
-        let json = Object::new(console.alloc)
-            .put_text("highest", highest)
-            .put_text("matching", matching)
-            .into_json();
-        return console.json(json);
-    }
-    let matching = matching.unwrap_or("none");
-    let highest = highest.unwrap_or("none");
-    let end = console.options.line_end();
-    write!(console.out, "{matching} {highest}{end}")?;
-    Ok(())
-}
-
 /// `ranges outdated RANGE [VERSION..]`: the highest version that matches, and the highest of all. The status is 1 if there is a
 /// higher one than that which matches.
 pub fn outdated<R: Input, O: Write, E: Write>(
@@ -187,7 +167,18 @@ pub fn outdated<R: Input, O: Write, E: Write>(
     let mut listed = Listed::new(console.alloc, &[], console.options.pre_release);
     let status = take_all(rt, console, matches.get_strs("VERSION"), &mut listed)?;
     let (matching, highest) = (listed.highest(range), listed.highest(&any));
-    print_outdated(console, matching, highest)?;
+    if console.options.json {
+        let json = Object::new(console.alloc)
+            .put_text("highest", highest)
+            .put_text("matching", matching)
+            .into_json();
+        console.json(json)?;
+    } else {
+        let matching = matching.unwrap_or("none");
+        let highest = highest.unwrap_or("none");
+        let end = console.options.line_end();
+        write!(console.out, "{matching} {highest}{end}")?;
+    }
     Ok(status.worse(Status::of(highest.is_none() || matching == highest)))
 }
 

@@ -15,8 +15,8 @@ mod explaining;
 mod listed;
 mod packaged;
 
+use clap::ArgMatches;
 use clap::error::ErrorKind as Mistake;
-use clap::{ArgMatches, Error};
 use std::env::Env;
 use std::io::{BufWriter, IsTerminal, Write};
 use std::process::ExitCode;
@@ -56,29 +56,6 @@ fn answer<R: Input + Files + AllocGlobal, O: Write, E: Write>(
     Ok(status)
 }
 
-// Prints the help or the version, or what is wrong with the arguments.
-fn print_mistake<R: Print + AllocGlobal, E: Write>(
-    rt: &R,
-    err: &mut E,
-    mistake: &Error,
-) -> Result<Status, Stop> {
-    match mistake.kind() {
-        Mistake::DisplayHelp | Mistake::DisplayVersion => {
-            rt.print(mistake)?;
-            Ok(Status::Answered)
-        }
-        Mistake::OutOfMemory => Err(Stop::OutOfMemory),
-        _ => {
-            let text = format!(in rt.alloc(); "{mistake}")?;
-            for line in text.lines() {
-                // What can't be written to standard error is left out.
-                let _ = writeln!(err, "{}", Shown(line));
-            }
-            Ok(Status::Usage)
-        }
-    }
-}
-
 fn arguments<R: Env + AllocGlobal>(rt: &R) -> io::Result<Vec<String>> {
     Ok(env::args(rt)?.collect(rt.alloc())?)
 }
@@ -103,7 +80,7 @@ fn write_answer<R: Runtime + AllocGlobal, E: Write + Drop>(
     answer(rt, &mut console, name, matches)
 }
 
-// Parses the arguments and runs their command.
+// Parses the arguments, and runs their command; or prints the help, the version, or what is wrong with them.
 fn run<R: Runtime + AllocGlobal, E: Write + Drop>(
     rt: &R,
     mut err: E,
@@ -116,11 +93,21 @@ fn run<R: Runtime + AllocGlobal, E: Write + Drop>(
             drop(matches);
             status
         }
-        Err(mistake) => {
-            let status = print_mistake(rt, &mut err, &mistake);
-            drop(mistake);
-            status
-        }
+        Err(mistake) => match mistake.kind() {
+            Mistake::DisplayHelp | Mistake::DisplayVersion => {
+                rt.print(&mistake)?;
+                Ok(Status::Answered)
+            }
+            Mistake::OutOfMemory => Err(Stop::OutOfMemory),
+            _ => {
+                let text = format!(in rt.alloc(); "{mistake}")?;
+                for line in text.lines() {
+                    // What can't be written to standard error is left out.
+                    let _ = writeln!(err, "{}", Shown(line));
+                }
+                Ok(Status::Usage)
+            }
+        },
     }
 }
 

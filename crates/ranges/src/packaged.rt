@@ -5,7 +5,7 @@ use clap::ArgMatches;
 use deno_semver::jsr::normalized_export_name;
 use deno_semver::package::{PackageKind, PackageReq};
 use package_answers::packages::{package_json, read_package, scope_and_name};
-use package_answers::references::{Reference, read_reference, reference_json};
+use package_answers::references::{read_reference, reference_json};
 use std::io::Write;
 use terminal::console::{Console, Status, Stop, print_line};
 use terminal::shown::Shown;
@@ -50,21 +50,6 @@ pub fn report_package<O: Write, E: Write>(
     Ok(Status::Answered)
 }
 
-// Prints the parts of a reference, each on a line.
-fn print_reference<O: Write, E: Write>(
-    console: &mut Console<O, E>,
-    read: &Reference,
-) -> Result<(), Stop> {
-    print_part(&mut console.out, "kind", Some(read.registry()))?;
-    print_package(console, &read.reference.req)?;
-    print_part(&mut console.out, "path", read.path())?;
-    if read.kind != PackageKind::Jsr {
-        return Ok(());
-    }
-    let export = normalized_export_name(console.alloc, read.path())?;
-    print_part(&mut console.out, "export", Some(export.as_str()))
-}
-
 /// `ranges reference TEXT`: the parts of a reference to a package.
 pub fn report_reference<O: Write, E: Write>(
     console: &mut Console<O, E>,
@@ -77,8 +62,14 @@ pub fn report_reference<O: Write, E: Write>(
     };
     if console.options.json {
         console.json(reference_json(console.alloc, &read))?;
-    } else {
-        print_reference(console, &read)?;
+        return Ok(Status::Answered);
+    }
+    print_part(&mut console.out, "kind", Some(read.registry()))?;
+    print_package(console, &read.reference.req)?;
+    print_part(&mut console.out, "path", read.path())?;
+    if read.kind == PackageKind::Jsr {
+        let export = normalized_export_name(console.alloc, read.path())?;
+        print_part(&mut console.out, "export", Some(export.as_str()))?;
     }
     Ok(Status::Answered)
 }

@@ -37,19 +37,6 @@ fn kind_at(section: &str, depth: usize) -> Option<Kind> {
     }
 }
 
-// What is wrong with a value that begins with this character, by the section and how many objects deep in it the value is.
-fn mistake_at(section: &str, depth: usize, first: char) -> Option<&'static str> {
-    let is_range_at = |depth: usize| kind_at(section, depth) == Some(Kind::Range);
-    let has_ranges = is_range_at(depth.saturating_add(1)) || is_range_at(depth.saturating_add(2));
-    match first {
-        '{' if has_ranges => None,
-        '"' if is_range_at(depth) => None,
-        _ if is_range_at(depth) => Some("expected a string, such as \"^1.2\""),
-        _ if has_ranges => Some("expected an object"),
-        _ => None,
-    }
-}
-
 // Goes over JSON, and collects the values that are ranges or specifiers, and what is there in place of one.
 #[derive(Drop)]
 struct Scanner<'t> {
@@ -104,7 +91,17 @@ impl<'t> Scanner<'t> {
         if self.is_value && !c.is_ascii_whitespace() {
             self.is_value = c == '"';
             let (section, depth) = self.place();
-            if let Some(message) = mistake_at(section, depth, c) {
+            let is_range_at = |depth: usize| kind_at(section, depth) == Some(Kind::Range);
+            let has_ranges = is_range_at(depth.saturating_add(1))
+                || is_range_at(depth.saturating_add(2));
+            let mistake = match c {
+                '{' if has_ranges => None,
+                '"' if is_range_at(depth) => None,
+                _ if is_range_at(depth) => Some("expected a string, such as \"^1.2\""),
+                _ if has_ranges => Some("expected an object"),
+                _ => None,
+            };
+            if let Some(message) = mistake {
                 self.add("", index, Kind::Mistake(message))?;
             }
         }
@@ -147,31 +144,28 @@ impl<'t> Scanner<'t> {
     }
 }
 
-// The entries of a file that is valid JSON.
-fn of_json(alloc: Global, file: &str) -> Result<Vec<Entry>, AllocError> {
-    let mut scanner = Scanner {
-        alloc,
-        file,
-        path: Vec::new(alloc),
-        key: None,
-        is_value: false,
-        text: None,
-        is_escaped: false,
-        entries: Vec::new(alloc),
-    };
-    for (index, c) in file.char_indices() {
-        scanner.step(index, c)?;
-    }
-    let Scanner { entries, .. } = scanner;
-    Ok(entries)
-}
-
 // The entries of JSON, or the one mistake that it is. A lockfile has none.
 fn of_text(alloc: Global, file: &str) -> Result<Vec<Entry>, AllocError> {
     let (start, message) = match Value::from_str(alloc, file) {
         Ok(value) if !value.is_object() => (0, "expected an object"),
         Ok(value) if value.get("lockfileVersion").is_some() => return Ok(Vec::new(alloc)),
-        Ok(_) => return of_json(alloc, file),
+        Ok(_) => {
+            let mut scanner = Scanner {
+                alloc,
+                file,
+                path: Vec::new(alloc),
+                key: None,
+                is_value: false,
+                text: None,
+                is_escaped: false,
+                entries: Vec::new(alloc),
+            };
+            for (index, c) in file.char_indices() {
+                scanner.step(index, c)?;
+            }
+            let Scanner { entries, .. } = scanner;
+            return Ok(entries);
+        }
         Err(error) if error.is_memory() => return Err(AllocError),
         Err(error) => {
             // Lines and columns count from 1.
