@@ -3,8 +3,7 @@
 ghost use Rattle.std.specs.Prelude.{◌≡◌, IfOk, string_bytes};
 ghost use Rattle.serde_json.specs.View.{view};
 ghost use Rattle.serde_json.specs.Written.{compact_text};
-ghost use Rattle.answers.specs.Reading.{texts_of};
-ghost use Rattle.package_answers.specs.Errors.{missing_json, package_errors_json, part_texts};
+ghost use Rattle.package_answers.specs.Errors.{missing_json, package_errors_json};
 
 use answers::errors::errors_text as range_errors_text;
 use answers::object::{Object, json_text, text_json};
@@ -45,25 +44,19 @@ pub enum PackageErrors {
     Part(PartError),
 }
 
-// The texts of a part.
-fn part_texts(missing: Option<Part>) -> &'static [&'static str]
-    ensures { texts_of result.now ≡ part_texts missing }
-{
-    match missing {
-        Some(Part::At) => &["@"],
-        Some(Part::Slash) => &["/"],
-        Some(Part::Name) => &["name"],
-        Some(Part::Scheme) => &["jsr:", "npm:"],
-        None => &[],
-    }
-}
-
 /// Returns what is expected where a part is missing, as JSON.
 pub fn missing_json(alloc: Global, missing: Option<Part>) -> Result<Value, AllocError>
     ensures { IfOk result (λ json. view json ≡ missing_json missing) }
 {
+    let texts = match missing {
+        Some(Part::At) => ["@"].as_slice(),
+        Some(Part::Slash) => ["/"].as_slice(),
+        Some(Part::Name) => ["name"].as_slice(),
+        Some(Part::Scheme) => ["jsr:", "npm:"].as_slice(),
+        None => [].as_slice(),
+    };
     let mut items = Vec::new(alloc);
-    for text in part_texts(missing) {
+    for text in texts {
         items.push(text_json(alloc, text)?)?;
     }
     Ok(Value::Array(items))
