@@ -18,7 +18,6 @@ use Rattle.semver_base.specs.Meaning.{release}
 use Rattle.semver_base.specs.ShortTexts.{IsBareNumber, IsBareTriple, IsPairFront, IsTripleFront, LacksDottedNumber, LacksShortNumber, LacksShortTriple}
 use Rattle.semver_base.specs.VersionParserSteps.{IsFittingNumber, IsFittingTriple, IsBareVersion, IsQualified}
 use Rattle.semver_base.specs.declared.lexical.values.Strictness.TheVariants.{Loose}
-use Rattle.semver_base.specs.declared.short.ShortNumbers.TheVariants as short_numbers
 use Rattle.semver_base.specs.declared.short.Numbers.{Numbers}
 use Rattle.semver_base.specs.declared.version.Version.{Version}
 use Rattle.semver_base.specs.ByteLaws.{joined_some_text, list_all-append}

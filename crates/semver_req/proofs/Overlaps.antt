@@ -1,5 +1,5 @@
 -- Overlap with a tag.
-use Rattle.std.proofs.Common.{◌≡◌, List, ℕ, Bool, sym, ◌∙◌, nat_cmp, ◌↔◌, IsTrue, nat_eq}
+use Rattle.std.proofs.Common.{◌≡◌, List, ℕ, sym, ◌∙◌, nat_cmp, ◌↔◌, IsTrue, nat_eq}
 use Rattle.std.proofs.Math.Bool.{and-false}
 use Rattle.std.specs.Cmp.{Equal-is}
 use Rattle.std.specs.Cmp.Lexicographic.{nat_list_eq_equiv, pointwise, slice_cmp, texts_ties}
