@@ -1,8 +1,10 @@
 -- A text parses to one dependency or has one fault, and which fault an error reports.
-use Rattle.std.proofs.Common.{◌≡◌, ◌==◌, ◌++◌, ℕ, List, true, false, Result, Ok, Err, get_or, refl, sym, ap, ap₂, subst, ◌∙◌, inl, inr, ◌⊎◌}
+use Rattle.std.proofs.Common.{◌≡◌, ◌==◌, ◌++◌, ℕ, List, true, false, Result, Ok, Err, get_or, refl, sym, ap, ap₂, subst, ◌∙◌, inl, inr, ◌⊎◌, Bor, Option, None, Some, MatchOption, arith, take, String, Global, string_bytes}
+use Rattle.std.proofs.Math.Seq.{take-length}
+use Rattle.std.proofs.lemmas.Str.Pattern.{IsSplitOnceResult, split_once_first}
 use Rattle.std.proofs.lemmas.List.{append_cancel_left}
 use Rattle.semver_req.specs.declared.common.values.Flavour.{Flavour}
-use Rattle.deno_semver.specs.DependencyOutcome.{BadRequirement, DependencyFault, IsDependencyAnswer, IsDependencyOutcome, IsDependencyRejection, IsOfPackageError, IsReportedScheme, OtherScheme, ReportsDependency, bad_requirement, is_dependency, other_scheme}
+use Rattle.deno_semver.specs.DependencyOutcome.{BadRequirement, DependencyFault, IsDependencyAnswer, IsDependencyOutcome, IsDependencyRejection, IsOfPackageError, OtherScheme, ReportsDependency, bad_requirement, is_dependency, other_scheme, reported_scheme}
 use Rattle.deno_semver.specs.Kind.{scheme_of}
 use Rattle.deno_semver.specs.OneOutcome.{PackageTextsHaveOneOutcome}
 use Rattle.deno_semver.specs.PackageOutcome.{PackageFault, IsPackageAnswer, IsPackageOutcome, IsPackageRejection, IsOutOfMemory, ReportsFault}
@@ -34,18 +36,20 @@ one_body k l a b e = append_cancel_left (scheme_of k) a b (e ∙ ap (λ (x : Pac
 
 -- ---- errors and results
 
-pub scheme_rejected : {f : Flavour} {text : List ℕ} (e : JsrDepPackageReqParseError) → ((kind : PackageKind) → LacksScheme kind text) → IsReportedScheme text e → IsDependencyRejection f text e
-scheme_rejected (error.NotExpectedScheme scheme) none reported = inr (OtherScheme, other_scheme none, reported)
-scheme_rejected (error.PackageReqParse inner) none reported = absurd reported
-scheme_rejected error.Memory none reported = inl refl
+-- the text before the first `:`
+pub before_colon : (text : List ℕ) (r : Option (Bor (List ℕ) × Bor (List ℕ))) → IsSplitOnceResult 58 text r → MatchOption r (text ≡ reported_scheme text) (λ x. x.0.now ≡ reported_scheme text)
+before_colon text None h = sym (ap (λ n. take n text) (split_once_first 58 text None h (omega arith)) ∙ take-length text)
+before_colon text (Some x) h = (split_once_first 58 text (Some x) h (omega arith)).1
 
-pub scheme_answer : {f : Flavour} {text : List ℕ} (e : JsrDepPackageReqParseError) → ((kind : PackageKind) → LacksScheme kind text) → IsReportedScheme text e
-    → (o : Result JsrDepPackageReq DependencyFault) → IsDependencyOutcome f text o → IsDependencyAnswer f text o (Err e)
-scheme_answer (error.NotExpectedScheme scheme) none reported _ (other_scheme k) = inr reported
-scheme_answer (error.PackageReqParse inner) none reported _ (other_scheme k) = absurd reported
-scheme_answer error.Memory none reported _ (other_scheme k) = inl refl
-scheme_answer e none reported _ (is_dependency kind body is h) = absurd (none kind body is)
-scheme_answer e none reported _ (bad_requirement kind body is h) = absurd (none kind body is)
+pub scheme_rejected : {f : Flavour} {text : List ℕ} (scheme : String Global) → ((kind : PackageKind) → LacksScheme kind text) → string_bytes scheme ≡ reported_scheme text
+    → IsDependencyRejection f text (error.NotExpectedScheme scheme)
+scheme_rejected scheme none reported = inr (OtherScheme, other_scheme none, reported)
+
+pub scheme_answer : {f : Flavour} {text : List ℕ} (scheme : String Global) → ((kind : PackageKind) → LacksScheme kind text) → string_bytes scheme ≡ reported_scheme text
+    → (o : Result JsrDepPackageReq DependencyFault) → IsDependencyOutcome f text o → IsDependencyAnswer f text o (Err (error.NotExpectedScheme scheme))
+scheme_answer scheme none reported _ (other_scheme k) = inr reported
+scheme_answer scheme none reported _ (is_dependency kind body is h) = absurd (none kind body is)
+scheme_answer scheme none reported _ (bad_requirement kind body is h) = absurd (none kind body is)
 
 abbrev pub dependency_of : PackageKind → PackageReq → JsrDepPackageReq
 dependency_of kind req = record { kind = kind; req = req }

@@ -1,5 +1,5 @@
 -- The result for JSON, from the results for its members and items.
-use Rattle.std.proofs.Common.{◌≡◌, ◌<◌, ◌+◌, ℕ, List, [], ◌∷◌, ◌++◌, length, map, take, drop, get_or, Option, Some, None, option_map, Result, Ok, Err, Ordering, Less, Equal, Greater, string_bytes, nat_cmp, is_eq, codes, false, refl, sym, ap, subst, ◌∙◌, inl, inr, arith, MatchOption, IfErr, OnOk, IsErrAnd, is_err}
+use Rattle.std.proofs.Common.{◌≡◌, ◌<◌, ◌+◌, ℕ, List, [], ◌∷◌, ◌++◌, length, map, take, drop, get_or, Option, Some, None, option_map, Result, Ok, Err, Ordering, Less, Equal, Greater, string_bytes, nat_cmp, is_eq, codes, false, refl, sym, ap, ◌∙◌, inl, inr, arith, MatchOption, IfErr, OnOk, IsErrAnd, is_err}
 use Rattle.std.proofs.lemmas.Cmp.{nat_list_cmp_total, tied_itself}
 use Rattle.std.proofs.lemmas.List.{drop_more, map-append, take-append-drop, take_more}
 use Rattle.std.proofs.lemmas.Map.Text.{is_eq-slice_cmp}
@@ -13,7 +13,7 @@ use Rattle.serde_json.proofs.Views.{Entry}
 use Rattle.semver_base.specs.declared.range.RangeBound.{RangeBound}
 use Rattle.semver_base.specs.declared.range.RangeBound.TheVariants as bound
 use Rattle.semver_base.specs.declared.range.VersionBound.{VersionBound}
-use Rattle.deno_semver.specs.Json.{AreItemsOf, IsJsonOfBound, IsJsonOfRangeBound}
+use Rattle.deno_semver.specs.Json.{AreItemsOf, IsJsonOfBound, IsJsonOfRangeBound, IsMemberOf}
 use Rattle.deno_semver.specs.JsonAnswers.{IsJsonAnswer, IsJsonRejection}
 use Rattle.deno_semver.specs.declared.json.JsonError.{JsonError}
 use Rattle.deno_semver.specs.declared.json.JsonError.TheVariants as error
@@ -102,7 +102,7 @@ object_of (array ds) ms h = cc h
 object_of (object ns) ms h = let same : ms ≡ ns = cc h in rw same refl
 
 -- an object with more or fewer members than one has no only member
-pub no_single : (d : Data) (es : List Entry) → Some (members_view es) ≡ as_object d → (length es ≡ 1 → ⊥) → (key : List ℕ) (only : Data) → d ≡ object (member key only no_members) → ⊥
+no_single : (d : Data) (es : List Entry) → Some (members_view es) ≡ as_object d → (length es ≡ 1 → ⊥) → (key : List ℕ) (only : Data) → d ≡ object (member key only no_members) → ⊥
 no_single d [] h other key only is = cc (object_of d _ h, is)
 no_single d (e ∷ []) h other key only is = other refl
 no_single d (e ∷ f ∷ es) h other key only is = cc (object_of d _ h, is)
@@ -113,7 +113,7 @@ found_at Equal key k e v is h = ((bytes_eq-Decides key k).0 (sym (is_eq-slice_cm
 found_at Greater key k e v is h = cc h
 
 -- the member of an object with one member, or that it has another key
-pub single : {V : Type 0} (seen : V → Data) (d : Data) (es : List Entry) → Some (members_view es) ≡ as_object d → length es ≡ 1 → (key : List ℕ) (r : Option V) → option_map seen r ≡ get key d
+single : {V : Type 0} (seen : V → Data) (d : Data) (es : List Entry) → Some (members_view es) ≡ as_object d → length es ≡ 1 → (key : List ℕ) (r : Option V) → option_map seen r ≡ get key d
     → MatchOption r ((only : Data) → d ≡ object (member key only no_members) → ⊥) (λ v. d ≡ object (member key (seen v) no_members))
 single seen d [] h one key r is = cc one
 single seen d (e ∷ f ∷ es) h one key r is = absurd (omega (arith, one))
@@ -126,12 +126,19 @@ single seen d (e ∷ []) h one key (Some v) is =
     let found = found_at _ key (string_bytes e.0) (view e.1) (seen v) refl (is ∙ ap (get key) whole) in
     whole ∙ rw (found.0, found.1) refl
 
--- an object with this only member parses to a bound, and that member to the bound's version
-pub only_bound : (d only : Data) → d ≡ object (member (codes "Version") only no_members) → (x : RangeBound) → IsJsonOfRangeBound d x → (b : VersionBound) × IsJsonOfBound only b
-only_bound d only is bound.Unbounded h = cc (is, h)
-only_bound d only is (bound.Version b) h =
-    let same : h.0 ≡ only = cc (is, h.1) in
-    (b, subst (λ e. IsJsonOfBound e b) same h.2)
+pub no_bound_of : (d : Data) (es : List Entry) → Some (members_view es) ≡ as_object d → (length es ≡ 1 → ⊥) → (x : RangeBound) → IsJsonOfRangeBound d x → ⊥
+no_bound_of d es h other bound.Unbounded k = cc (object_of d _ h, k)
+no_bound_of d es h other (bound.Version b) k = no_single d es h other (codes "Version") k.0 k.1
+
+-- an object with one member, which parses to a version's bound, parses to that bound
+pub bound_read : (d : Data) (es : List Entry) → Some (members_view es) ≡ as_object d → length es ≡ 1 → (b : VersionBound) → IsMemberOf IsJsonOfBound (codes "Version") d b → IsJsonOfRangeBound d (bound.Version b)
+bound_read d es h one b k = (k.member_json, single (λ x. x) d es h one (codes "Version") (Some k.member_json) (sym k.is_member), k.reads)
+
+-- a bound that an object parses to is a version's, to which the object's member parses
+pub bound_of : (d : Data) (ms : Members) → Some ms ≡ as_object d → (x : RangeBound) → IsJsonOfRangeBound d x → (b : VersionBound) × (x ≡ bound.Version b) × IsMemberOf IsJsonOfBound (codes "Version") d b
+bound_of d ms h bound.Unbounded k = cc (object_of d ms h, k)
+bound_of d ms h (bound.Version b) k =
+    (b, refl, record { member_json = k.0; is_member = ap (get (codes "Version")) k.1; reads = k.2 })
 
 -- ---- a push that doesn't run out of memory
 

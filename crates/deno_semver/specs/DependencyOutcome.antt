@@ -68,9 +68,3 @@ IsSameError (error.NotExpectedScheme scheme) (error.NotExpectedScheme other) = s
 IsSameError (error.PackageReqParse inner) e = e ≡ error.PackageReqParse inner
 IsSameError error.Memory e = e ≡ error.Memory
 IsSameError (error.NotExpectedScheme scheme) e = ⊥
-
--- the error shows the scheme, or is out of memory
-abbrev pub IsReportedScheme : List ℕ → JsrDepPackageReqParseError → Type 0
-IsReportedScheme text (error.NotExpectedScheme scheme) = string_bytes scheme ≡ reported_scheme text
-IsReportedScheme text (error.PackageReqParse inner) = ⊥
-IsReportedScheme text error.Memory = Unit {0}

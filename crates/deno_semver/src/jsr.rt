@@ -3,7 +3,7 @@
 ghost use Rattle.std.specs.Prelude.{◌≡◌, IfOk};
 ghost use Rattle.std.specs.Cow.{cow_str_bytes};
 ghost use Rattle.std.specs.Option.{option_copied};
-ghost use Rattle.deno_semver.specs.ExportName.{IsExportName, export_name, without_last_slash};
+ghost use Rattle.deno_semver.specs.ExportName.{IsExportName, export_name};
 ghost use Rattle.deno_semver.specs.declared.package.values.PackageKind.TheVariants.{Jsr};
 
 mod dependency;
@@ -32,16 +32,6 @@ pub type JsrPackageReqReference = RegistryReqReference<JsrRegistry>;
 /// A reference to one version of a JSR package, such as `jsr:@scope/name@1.0.0/mod.ts`.
 pub type JsrPackageNvReference = RegistryNvReference<JsrRegistry>;
 
-// The path without one trailing `/`.
-fn without_last_slash(path: &str) -> &str
-    ensures { result.now ≡ without_last_slash path.now }
-{
-    match path.strip_suffix('/') {
-        Some(front) => front,
-        None => path,
-    }
-}
-
 /// Returns the name of the export that a path in a JSR package means: `.`, the package's own export, without a path and for
 /// an empty path, `/` and `.`. Any other path loses one trailing `/`, and then gets `./` in front in place of one `/`, unless
 /// it begins with `./` (the exports of JSR's packages; the crate `deno_semver`).
@@ -61,7 +51,7 @@ pub fn normalized_export_name(
     if matches!(path, "" | "/" | ".") {
         return Ok(CowStr::Borrowed("."));
     }
-    let path = without_last_slash(path);
+    let path = path.strip_suffix('/').unwrap_or(path);
     if path.starts_with("./") {
         return Ok(CowStr::Borrowed(path));
     }

@@ -1,7 +1,7 @@
 //! Values whose JSON is an object or an array.
 
-ghost use Rattle.std.specs.Prelude.{◌≡◌, IfOk, List, MatchOption, OnOk, map};
-ghost use Rattle.serde_json.specs.Data.{Data, member, no_members, object, put as with_member};
+ghost use Rattle.std.specs.Prelude.{◌≡◌, IfOk, List, OnOk, map};
+ghost use Rattle.serde_json.specs.Data.{member, put as with_member};
 ghost use Rattle.serde_json.specs.View.{items_view, members_view, view};
 ghost use Rattle.semver_base.specs.declared.range.VersionRange.{VersionRange};
 ghost use Rattle.deno_semver.specs.Json.{AreItemsOf, IsJsonOfBound, IsJsonOfRange, IsJsonOfRangeBound, IsJsonOfSet, IsJsonOfVersionReq, IsMemberOf, bound_json, range_bound_json, range_json, set_json, version_req_json};
@@ -82,19 +82,6 @@ impl JsonForm for VersionBound {
     }
 }
 
-// The member with this key, if the object has no other.
-fn only_member<'v>(value: &'v Value, key: &str) -> Option<&'v Value>
-    ensures { MatchOption result
-        ((d : Data) → view value.now ≡ object (member key.now d no_members) → ⊥)
-        (λ only. view value.now ≡ object (member key.now (view only.now) no_members)) }
-{
-    let members = value.as_object()?;
-    if members.len() != 1 {
-        return None;
-    }
-    value.get(key)
-}
-
 /// The string `Unbounded`, or an object whose only member is `Version`; one with further members is rejected.
 impl JsonForm for RangeBound {
     ghost json = { range_bound_json };
@@ -116,10 +103,13 @@ impl JsonForm for RangeBound {
         if value.as_str() == Some("Unbounded") {
             return Ok(RangeBound::Unbounded);
         }
-        match only_member(value, "Version") {
-            Some(bound) => Ok(RangeBound::Version(VersionBound::from_json(alloc, bound)?)),
-            None => Err(JsonError::Json),
+        let Some(members) = value.as_object() else {
+            return Err(JsonError::Json);
+        };
+        if members.len() != 1 {
+            return Err(JsonError::Json);
         }
+        Ok(RangeBound::Version(of_member(alloc, value, "Version")?))
     }
 }
 

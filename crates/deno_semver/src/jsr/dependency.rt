@@ -3,7 +3,7 @@
 ghost use Rattle.std.specs.Prelude.{◌≡◌, ◌↔◌, IfErr, IfOk, IsTrue, Ok, Result, Some, refl};
 ghost use Rattle.semver_req.specs.declared.common.values.Flavour.TheVariants.{Normal, Npm, Specifier};
 ghost use Rattle.deno_semver.specs.DependencyText.{dependency_text, normal_dependency_text};
-ghost use Rattle.deno_semver.specs.DependencyOutcome.{DependencyFault, IsDependencyAnswer, IsDependencyOutcome, IsDependencyRejection, IsOfPackageError, IsSameError, IsReportedScheme};
+ghost use Rattle.deno_semver.specs.DependencyOutcome.{DependencyFault, IsDependencyAnswer, IsDependencyOutcome, IsDependencyRejection, IsOfPackageError, IsSameError};
 ghost use Rattle.deno_semver.specs.declared.jsr.dependency.JsrDepPackageReq.{JsrDepPackageReq};
 ghost use Rattle.deno_semver.specs.declared.package.values.PackageKind.TheVariants as kind;
 
@@ -73,20 +73,6 @@ pub struct JsrDepPackageReq {
     pub req: PackageReq,
 }
 
-// The error for another scheme, the text before the first `:` or all of it, or out of memory.
-fn other_scheme(alloc: Global, text: &str) -> JsrDepPackageReqParseError
-    ensures { IsReportedScheme text.now result }
-{
-    let scheme = match text.split_once(':') {
-        Some((scheme, _)) => scheme,
-        None => text,
-    };
-    match String::from_str(alloc, scheme) {
-        Ok(scheme) => JsrDepPackageReqParseError::NotExpectedScheme(scheme),
-        Err(_) => JsrDepPackageReqParseError::Memory,
-    }
-}
-
 // Parses a dependency whose version has this flavour of grammar.
 fn read(
     alloc: Global,
@@ -104,7 +90,14 @@ fn read(
     } else if let Some(body) = PackageKind::Npm.after_scheme(text) {
         (PackageKind::Npm, body)
     } else {
-        return Err(other_scheme(alloc, text));
+        let scheme = match text.split_once(':') {
+            Some((scheme, _)) => scheme,
+            None => text,
+        };
+        return match String::from_str(alloc, scheme) {
+            Ok(scheme) => Err(JsrDepPackageReqParseError::NotExpectedScheme(scheme)),
+            Err(_) => Err(JsrDepPackageReqParseError::Memory),
+        };
     };
     match package_req(alloc, body, flavour) {
         Ok(req) => Ok(JsrDepPackageReq { kind, req }),

@@ -1,22 +1,33 @@
-use Rattle.std.proofs.Common.{rules}
-use Rattle.deno_semver.specs.DependencyOutcome.{is_dependency}
-use Rattle.deno_semver.proofs.Dependencies.{package_answer, package_rejected, read_answer, scheme_answer, scheme_rejected}
+use Rattle.std.proofs.Common.{◌≡◌, ◌∙◌, ℕ, List, Bor, None, Some, ap, rules}
+use Rattle.deno_semver.specs.DependencyOutcome.{is_dependency, reported_scheme}
+use Rattle.deno_semver.proofs.Dependencies.{before_colon, package_answer, package_rejected, read_answer, scheme_answer, scheme_rejected}
+use Rattle.deno_semver.proofs.jsr.dependency.read.Goals.{in-Some-split_once, in-None}
 use Rattle.deno_semver.proofs.jsr.dependency.read.Goals as goal
 
-pub returns-in_default-after_scheme-clause-rejected : goal.returns-in_default-after_scheme-clause-rejected
-returns-in_default-after_scheme-clause-rejected c = scheme_rejected c.other_scheme.result (search rules) c.other_scheme.ensures
+pub returns-in-Ok-package_req-clause-read : goal.returns-in-Ok-package_req-clause-read
+returns-in-Ok-package_req-clause-read c = is_dependency _ _ (search rules) c.in-Ok-package_req.ensures.read
 
-pub returns-in_default-after_scheme-clause-answer : goal.returns-in_default-after_scheme-clause-answer
-returns-in_default-after_scheme-clause-answer c = scheme_answer c.other_scheme.result (search rules) c.other_scheme.ensures
+pub returns-in-Ok-package_req-clause-answer : goal.returns-in-Ok-package_req-clause-answer
+returns-in-Ok-package_req-clause-answer c = read_answer _ _ (search rules) c.in-Ok-package_req.req c.in-Ok-package_req.ensures.answer
 
-pub returns-in-Ok-clause-read : goal.returns-in-Ok-clause-read
-returns-in-Ok-clause-read c = is_dependency _ _ (search rules) c.in-Ok.ensures.read
+pub returns-in-Err-package_req-clause-rejected : goal.returns-in-Err-package_req-clause-rejected
+returns-in-Err-package_req-clause-rejected c = package_rejected c.match-after_scheme.kind.0 c.match-after_scheme.kind.1.now (search rules) c.in-Err-package_req.ensures.rejected c.from.ensures
+
+pub returns-in-Err-package_req-clause-answer : goal.returns-in-Err-package_req-clause-answer
+returns-in-Err-package_req-clause-answer c = package_answer c.match-after_scheme.kind.0 c.match-after_scheme.kind.1.now (search rules) c.in-Err-package_req.ensures.answer c.from.ensures
+
+pub returns-in-Ok-clause-rejected : goal.returns-in-Ok-clause-rejected
+returns-in-Ok-clause-rejected c =
+    let scheme : c.match-split_once.scheme.now ≡ reported_scheme c.args.text.now = elim c.match-split_once.branch [
+      | in-Some-split_once w ↦ ap (λ (x : Bor (List ℕ)). x.now) w.scheme-is ∙ before_colon c.args.text.now (Some (w.in-Some-split_once.scheme, w.in-Some-split_once.field-0-1)) w.in-Some-split_once.ensures.cases
+      | in-None w ↦ ap (λ (x : Bor (List ℕ)). x.now) w.scheme-is ∙ before_colon c.args.text.now None w.in-None.ensures.cases
+    ] in
+    scheme_rejected _ (search rules) (search rules)
 
 pub returns-in-Ok-clause-answer : goal.returns-in-Ok-clause-answer
-returns-in-Ok-clause-answer c = read_answer _ _ (search rules) c.in-Ok.req c.in-Ok.ensures.answer
-
-pub returns-in-Err-clause-rejected : goal.returns-in-Err-clause-rejected
-returns-in-Err-clause-rejected c = package_rejected c.match-after_scheme.kind.0 c.match-after_scheme.kind.1.now (search rules) c.in-Err.ensures.rejected c.from.ensures
-
-pub returns-in-Err-clause-answer : goal.returns-in-Err-clause-answer
-returns-in-Err-clause-answer c = package_answer c.match-after_scheme.kind.0 c.match-after_scheme.kind.1.now (search rules) c.in-Err.ensures.answer c.from.ensures
+returns-in-Ok-clause-answer c =
+    let scheme : c.match-split_once.scheme.now ≡ reported_scheme c.args.text.now = elim c.match-split_once.branch [
+      | in-Some-split_once w ↦ ap (λ (x : Bor (List ℕ)). x.now) w.scheme-is ∙ before_colon c.args.text.now (Some (w.in-Some-split_once.scheme, w.in-Some-split_once.field-0-1)) w.in-Some-split_once.ensures.cases
+      | in-None w ↦ ap (λ (x : Bor (List ℕ)). x.now) w.scheme-is ∙ before_colon c.args.text.now None w.in-None.ensures.cases
+    ] in
+    scheme_answer _ (search rules) (search rules)
