@@ -1,7 +1,7 @@
 -- How a text splits into a name and version, in one way.
-use Rattle.std.proofs.Common.{◌≡◌, ◌≤◌, ◌<◌, ◌==◌, ℕ, true, false, List, [], ◌∷◌, ◌++◌, length, take, drop, get_or, Option, None, Result, Ok, Err, refl, sym, ap, ap₂, subst, ◌∙◌, arith, inl, inr, add-one, length-append, Bor, ◌⊎◌}
+use Rattle.std.proofs.Common.{◌+◌, ◌≡◌, ◌<◌, ◌==◌, ℕ, true, false, List, [], ◌∷◌, ◌++◌, length, take, drop, Option, None, Result, Ok, Err, refl, sym, ap, ap₂, subst, ◌∙◌, arith, inl, inr, add-one, length-append, Bor, ◌⊎◌}
 use Rattle.std.specs.List.{list_all, take_while}
-use Rattle.std.specs.Str.{IsCharBoundary, trim}
+use Rattle.std.specs.Str.{trim}
 use Rattle.std.proofs.lemmas.Bool.Decides.{nat_tests}
 use Rattle.std.proofs.lemmas.List.{nil_from_length}
 use Rattle.semver_base.specs.Failure.{message_of}
@@ -13,32 +13,12 @@ use Rattle.semver_base.specs.declared.failure.Rejection.TheVariants.{UnexpectedC
 use Rattle.semver_base.specs.declared.version.Version.{Version}
 use Rattle.deno_semver.specs.Cuts.{is_not}
 use Rattle.deno_semver.specs.NameAndVersion.{IsNoNvText, IsNvAnswer, IsNvFront, IsNvMemory, IsNvName, IsNvOutcome, IsNvRejection, IsNvText, ReportsNvFault, is_bad, is_bad_version, is_followed, is_front, is_nv, is_uncut, is_version_byte}
-use Rattle.deno_semver.specs.NameAndVersionSteps.{IsFrontAnswer, IsFrontRejection, ReportsFailure, name_len}
+use Rattle.deno_semver.specs.NameAndVersionSteps.{IsFrontAnswer, IsFrontRejection, ReportsFailure}
 use Rattle.deno_semver.specs.declared.package.values.PackageNv.{PackageNv}
 use Rattle.deno_semver.specs.declared.package.name_version.PackageNvParseError.{PackageNvParseError}
-use Rattle.deno_semver.proofs.Runs.{cut_before, run_one, run_stop}
+use Rattle.deno_semver.proofs.Runs.{run_one}
 
 -- ---- where the parts end
-
-at_low : (b : ℕ) → is_not 64 b ≡ false → b < 128
-at_low b h = grind (arith, nat_tests)
-
-version_end_low : (b : ℕ) → is_version_byte b ≡ false → b < 128
-version_end_low b h = grind (arith, nat_tests)
-
-pub version_boundary : (xs : List ℕ) (n : ℕ) → n ≡ length (take_while is_version_byte xs) → IsCharBoundary xs n
-version_boundary xs n e =
-    let stop = run_stop is_version_byte xs in
-    cut_before xs n (rw e stop.0) (λ h. version_end_low (get_or xs n 0) (rw e (stop.1 (rw e at h))))
-
-name_stop : (xs : List ℕ) → (name_len xs ≤ length xs) × (name_len xs < length xs → is_not 64 (get_or xs (name_len xs) 0) ≡ false)
-name_stop [] = (omega arith, λ h. absurd (omega (arith, h)))
-name_stop (x ∷ xs) = let stop = run_stop (is_not 64) xs in rw (add-one (length (take_while (is_not 64) xs))) (omega (arith, stop.0), λ h. stop.1 (omega (arith, h)))
-
-pub name_boundary : (xs : List ℕ) (n : ℕ) → n ≡ name_len xs → IsCharBoundary xs n
-name_boundary xs n e =
-    let stop = name_stop xs in
-    cut_before xs n (rw e stop.0) (λ h. at_low (get_or xs n 0) (rw e (stop.1 (rw e at h))))
 
 -- the text is split before the first `@` after its first byte
 pub record IsNameCut (text name rest : List ℕ) : Type 0 where
@@ -47,12 +27,10 @@ pub record IsNameCut (text name rest : List ℕ) : Type 0 where
   pub ends : Stops (is_not 64) rest
 
 module _ (runs : CountedRunsAreCut) where
-  pub name_cut : (xs name rest : List ℕ) (n : ℕ) → n ≡ name_len xs → name ≡ take n xs → rest ≡ drop n xs → IsNameCut xs name rest
-  name_cut [] name rest n e f g = rw (f, g, e) (record { text_is = refl; name_is = λ h. absurd (omega (arith, h)); ends = tt })
-  name_cut (x ∷ xs) name rest n e f g =
-      let m = length (take_while (is_not 64) xs) in
+  pub name_cut : {text : List ℕ} (x : ℕ) (xs name rest : List ℕ) (n : ℕ) → text ≡ x ∷ xs → n ≡ length (take_while (is_not 64) xs) → name ≡ take (n + 1) text → rest ≡ drop (n + 1) text → IsNameCut text name rest
+  name_cut x xs name rest n is e f g =
       let run = runs (is_not 64) xs in
-      rw (f, g, e, add-one m) (record { text_is = ap (λ t. x ∷ t) run.text_is; name_is = λ h. run.pass; ends = run.stops })
+      rw (f, g, is, add-one n, e) (record { text_is = ap (λ t. x ∷ t) run.text_is; name_is = λ h. run.pass; ends = run.stops })
 
   pub version_cut : (xs version rest : List ℕ) (n : ℕ) → n ≡ length (take_while is_version_byte xs) → version ≡ take n xs → rest ≡ drop n xs → CutsRun is_version_byte xs version rest
   version_cut xs version rest n e f g = rw (f, g, e) (runs is_version_byte xs)

@@ -1,18 +1,11 @@
 -- The steps of parsing names with versions.
-use Rattle.std.specs.Prelude.{◌≡◌, ◌+◌, ◌∷◌, ◌⊎◌, [], ℕ, List, length, Option, None, Result, Ok, Err, MatchResult, IsErrAnd, take_while}
+use Rattle.std.specs.Prelude.{◌≡◌, ◌⊎◌, ℕ, List, Option, None, Result, Ok, Err, MatchResult, IsErrAnd}
 use Rattle.std.specs.Borrow.{Bor}
-use Rattle.semver_base.specs.Characters.{at_sign}
 use Rattle.semver_base.specs.Failure.{message_of}
-use Rattle.deno_semver.specs.Cuts.{is_not}
 use Rattle.deno_semver.specs.NameAndVersion.{IsNvFront, IsNvMemory, ReportsNvFault}
 use Rattle.semver_base.specs.declared.failure.Rejection.{Rejection}
 use Rattle.deno_semver.specs.declared.package.values.PackageNv.{PackageNv}
 use Rattle.deno_semver.specs.declared.package.name_version.PackageNvParseError.{PackageNvParseError}
-
--- the length of the leading name in bytes
-abbrev pub name_len : List ℕ → ℕ
-name_len [] = 0
-name_len (first ∷ more) = length (take_while (is_not at_sign) more) + 1
 
 -- the message of a failure that isn't out of memory, and the whole text
 pub record ReportsFailure (failure : Option (List ℕ × Option (List ℕ))) (text : List ℕ)

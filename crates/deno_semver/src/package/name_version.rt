@@ -1,17 +1,15 @@
 //! Parsing of names with versions.
 
-ghost use Rattle.std.specs.Prelude.{◌≡◌, ◌↔◌, ◌⊎◌, [], IfErr, IfOk, IsTrue, List, MatchOption, Ok, Result, length, true, ℕ};
+ghost use Rattle.std.specs.Prelude.{◌≡◌, ◌↔◌, ◌⊎◌, [], IfErr, IfOk, IsTrue, List, MatchOption, Ok, Result, true, ℕ};
 ghost use Rattle.std.specs.List.{list_all, take_while};
-ghost use Rattle.semver_base.specs.Characters.{at_sign};
 ghost use Rattle.semver_base.specs.VersionText.{ReadsBack, version_text};
 ghost use Rattle.semver_base.specs.declared.failure.Rejection.{Rejection};
 ghost use Rattle.semver_base.specs.declared.failure.Rejection.TheVariants.{UnexpectedCharacter};
 ghost use Rattle.semver_req.specs.Parsers.{IsReadOrTag};
 ghost use Rattle.semver_req.specs.Requirement.{PinsTo, pinned, ranges_of};
 ghost use Rattle.semver_req.specs.Rereading.{IsStableSet, OfReadVersion};
-ghost use Rattle.deno_semver.specs.Cuts.{is_not};
 ghost use Rattle.deno_semver.specs.NameAndVersion.{IsNoNvText, IsNvAnswer, IsNvFront, IsNvMemory, IsNvOutcome, IsNvRejection, IsNvText, NvReadsBack, ReportsNvFault, is_version_byte};
-ghost use Rattle.deno_semver.specs.NameAndVersionSteps.{IsFrontAnswer, IsFrontRejection, name_len};
+ghost use Rattle.deno_semver.specs.NameAndVersionSteps.{IsFrontAnswer, IsFrontRejection};
 ghost use Rattle.deno_semver.specs.declared.package.values.PackageNv.{PackageNv};
 
 use super::values::{PackageName, PackageNv, PackageReq};
@@ -89,47 +87,27 @@ struct Parts<'a> {
     rest: &'a str,
 }
 
-// The number of bytes before the first `@`.
-fn len_before_at(bytes: &[u8]) -> usize
-    ensures { result ≡ length (take_while (is_not at_sign) bytes.now) }
-{
-    bytes.iter().take_while(|b| **b != b'@').count()
-}
-
-// The number of bytes of the leading name: the first byte, and those before the next `@`.
-fn name_len(bytes: &[u8]) -> usize
-    ensures { result ≡ name_len bytes.now }
-{
-    match bytes.split_first() {
-        None => 0,
-        Some((_, more)) => len_before_at(more) + 1,
-    }
-}
-
-fn is_version_byte(byte: u8) -> bool
-    ensures { result ≡ is_version_byte byte }
-{
-    byte != b'_' && byte != b'/'
-}
-
-// The number of leading bytes that belong to the version.
-fn version_len(bytes: &[u8]) -> usize
-    ensures { result ≡ length (take_while is_version_byte bytes.now) }
-{
-    bytes.iter().take_while(|b| is_version_byte(**b)).count()
-}
-
 // Splits off the leading name and version.
 fn cut(text: &str) -> Option<Parts<'_>>
     ensures { MatchOption result (IsNoNvText text.now)
         (λ p. IsNvText text.now p.name.now p.version.now p.rest.now) }
 {
     counted_runs_are_cut();
-    let (name, rest) = text.split_at(name_len(text.as_bytes()));
+    let Some((_, more)) = text.as_bytes().split_first() else {
+        return None;
+    };
+    // The name is the first byte and those before the next `@`.
+    let len = more.iter().take_while(|b| **b != b'@').count() + 1;
+    let (name, rest) = text.split_at(len);
     let Some(rest) = after(rest, '@') else {
         return None;
     };
-    let (version, rest) = rest.split_at(version_len(rest.as_bytes()));
+    let len = rest
+        .as_bytes()
+        .iter()
+        .take_while(|b| **b != b'_' && **b != b'/')
+        .count();
+    let (version, rest) = rest.split_at(len);
     if version.is_empty() {
         return None;
     }

@@ -3,7 +3,7 @@
 ghost use Rattle.std.specs.Prelude.{◌≡◌, refl};
 ghost use Rattle.std.specs.Cmp.Lexicographic.{slice_cmp};
 ghost use Rattle.std.specs.Ordering.{as_partial_cmp};
-ghost use Rattle.deno_semver.specs.ReqOrder.{bound_kinds_cmp, build_of, cmp_by, end_cmp, inner_cmp, kind_place, req_cmp, start_cmp};
+ghost use Rattle.deno_semver.specs.ReqOrder.{bound_kinds_cmp, build_of, cmp_by, inner_cmp, kind_place, req_cmp};
 ghost use Rattle.deno_semver.specs.ReqOrderLaws.{req_po, req_ties, req_total};
 
 use super::values::PackageReq;
@@ -29,34 +29,6 @@ fn cmp_kind(a: &VersionBound, b: &VersionBound) -> Ordering
     kind_place(a.kind).cmp(&kind_place(b.kind))
 }
 
-// The higher version first, then an exclusive bound, and no start last.
-fn cmp_starts(a: &RangeBound, b: &RangeBound) -> Ordering
-    ensures { result ≡ start_cmp a.now b.now }
-{
-    match (a, b) {
-        (RangeBound::Unbounded, RangeBound::Unbounded) => Ordering::Equal,
-        (RangeBound::Unbounded, RangeBound::Version(_)) => Ordering::Greater,
-        (RangeBound::Version(_), RangeBound::Unbounded) => Ordering::Less,
-        (RangeBound::Version(a), RangeBound::Version(b)) => {
-            b.version.cmp_precedence(&a.version).then(cmp_kind(a, b))
-        }
-    }
-}
-
-// The lower version first, then an exclusive bound, and no end last.
-fn cmp_ends(a: &RangeBound, b: &RangeBound) -> Ordering
-    ensures { result ≡ end_cmp a.now b.now }
-{
-    match (a, b) {
-        (RangeBound::Unbounded, RangeBound::Unbounded) => Ordering::Equal,
-        (RangeBound::Unbounded, RangeBound::Version(_)) => Ordering::Greater,
-        (RangeBound::Version(_), RangeBound::Unbounded) => Ordering::Less,
-        (RangeBound::Version(a), RangeBound::Version(b)) => {
-            a.version.cmp_precedence(&b.version).then(cmp_kind(a, b))
-        }
-    }
-}
-
 // The build of the bound's version, if it has one.
 fn build_of(bound: &RangeBound) -> &[VersionPreOrBuild]
     ensures { result.now ≡ build_of bound.now }
@@ -79,7 +51,27 @@ impl By {
         ensures { result ≡ cmp_by self a.now b.now }
     {
         match self {
-            By::Bounds => cmp_starts(&a.start, &b.start).then(cmp_ends(&a.end, &b.end)),
+            By::Bounds => {
+                // The higher version first, then an exclusive bound, and no start last.
+                let starts = match (&a.start, &b.start) {
+                    (RangeBound::Unbounded, RangeBound::Unbounded) => Ordering::Equal,
+                    (RangeBound::Unbounded, RangeBound::Version(_)) => Ordering::Greater,
+                    (RangeBound::Version(_), RangeBound::Unbounded) => Ordering::Less,
+                    (RangeBound::Version(a), RangeBound::Version(b)) => {
+                        b.version.cmp_precedence(&a.version).then(cmp_kind(a, b))
+                    }
+                };
+                // The lower version first, then an exclusive bound, and no end last.
+                let ends = match (&a.end, &b.end) {
+                    (RangeBound::Unbounded, RangeBound::Unbounded) => Ordering::Equal,
+                    (RangeBound::Unbounded, RangeBound::Version(_)) => Ordering::Greater,
+                    (RangeBound::Version(_), RangeBound::Unbounded) => Ordering::Less,
+                    (RangeBound::Version(a), RangeBound::Version(b)) => {
+                        a.version.cmp_precedence(&b.version).then(cmp_kind(a, b))
+                    }
+                };
+                starts.then(ends)
+            }
             By::Builds => build_of(&a.start)
                 .cmp(build_of(&b.start))
                 .then(build_of(&a.end).cmp(build_of(&b.end))),
