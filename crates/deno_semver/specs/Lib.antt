@@ -9,7 +9,6 @@ pub mod Kind
 pub mod NameAndVersion
 pub mod NameAndVersionSteps
 pub mod NvReference
-pub mod NvReferenceReading
 pub mod OneOutcome
 pub mod PackageOutcome
 pub mod PackagePlaces

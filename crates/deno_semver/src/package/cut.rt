@@ -7,7 +7,7 @@ ghost use Rattle.semver_base.specs.Grammar.{CutsRun, Stops};
 ghost use Rattle.deno_semver.specs.Cuts.{is_not};
 ghost use Rattle.deno_semver.specs.PackagePlaces.{IsRequirementAt, LacksRequirement};
 ghost use Rattle.deno_semver.specs.PackageSteps.{IsCut, IsUncut};
-ghost use Rattle.deno_semver.specs.PackageText.{IsNamePart, IsPathPart, lacks_at, starts_with_at, without_slash};
+ghost use Rattle.deno_semver.specs.PackageText.{IsNamePart, IsPathPart, starts_with_at, without_slash};
 
 use super::errors::PackageReqPartsParseError;
 use semver_base::lexical::after;
@@ -63,7 +63,8 @@ pub(crate) fn name_and_version(last: &str) -> (&str, Option<&str>)
     }
 }
 
-fn starts_with_at(text: &str) -> bool
+/// Whether the text begins with `@`.
+pub(crate) fn starts_with_at(text: &str) -> bool
     ensures { result ≡ starts_with_at text.now }
 {
     match text.as_bytes().first() {
@@ -120,13 +121,4 @@ pub fn version_req_text(text: &str) -> Option<(usize, &str)>
         return None;
     };
     Some((text.len() - cut.tail.len() - version.len(), version))
-}
-
-/// Whether the text contains a `/` and doesn't begin with `@`.
-///
-/// The parsers of a package report that of an invalid text, whatever else is wrong.
-pub(crate) fn lacks_at(text: &str) -> bool
-    ensures { result ≡ lacks_at text.now }
-{
-    text.as_bytes().contains(&b'/') && !starts_with_at(text)
 }

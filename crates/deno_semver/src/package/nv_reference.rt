@@ -3,9 +3,7 @@
 ghost use Rattle.std.specs.Prelude.{◌≡◌, ◌↔◌, [], IfErr, IfOk, IsTrue, Ok, Result, Some, refl};
 ghost use Rattle.semver_base.specs.declared.failure.Rejection.{Rejection};
 ghost use Rattle.deno_semver.specs.NvReference.{IsNvReferenceAnswer, IsNvReferenceOutcome, IsNvReferenceRejection, NvReferenceReadsBack, nv_error, nv_reference_text};
-ghost use Rattle.deno_semver.specs.NvReferenceReading.{IsWithRest};
 ghost use Rattle.deno_semver.specs.declared.package.nv_reference.PackageNvReference.{PackageNvReference};
-ghost use Rattle.deno_semver.specs.Specifier.{IsSpecifier, specifier_text};
 
 use super::cut::without_slash;
 use super::name_version::{PackageNvParseError, memory, nv_at_front, unexpected};
@@ -15,7 +13,6 @@ use semver_base::string::{SmallStackString, StackString, StringAppendable};
 use std::alloc::{AllocError, Global};
 use std::fmt;
 use thiserror::Error;
-use url::{ParseError, Url};
 
 /// Why a text isn't a valid reference to a version of a package, or that memory ran out.
 ///
@@ -64,34 +61,6 @@ fn of_nv_error(error: PackageNvParseError) -> PackageNvReferenceParseError
     PackageNvReferenceParseError { message, text }
 }
 
-// The reference made of a name and version and what follows it.
-fn with_rest(
-    alloc: Global,
-    nv: PackageNv,
-    rest: &str,
-    whole: &str,
-) -> Result<PackageNvReference, PackageNvParseError>
-    ensures { IsWithRest nv rest.now whole.now result }
-{
-    if rest.is_empty() {
-        return Ok(PackageNvReference { nv, sub_path: None });
-    }
-    let Some(path) = after(rest, '/') else {
-        drop(nv);
-        return Err(unexpected(alloc, whole));
-    };
-    match PackageSubPath::from_str(alloc, path) {
-        Ok(path) => Ok(PackageNvReference {
-            nv,
-            sub_path: Some(path),
-        }),
-        Err(_) => {
-            drop(nv);
-            Err(memory(alloc))
-        }
-    }
-}
-
 impl PackageNvReference {
     /// Parses a reference to a version of a package of this registry.
     pub(crate) fn from_str(
@@ -113,9 +82,22 @@ impl PackageNvReference {
             Ok(front) => front,
             Err(error) => return Err(of_nv_error(error)),
         };
-        match with_rest(alloc, nv, rest, text) {
-            Ok(reference) => Ok(reference),
-            Err(error) => Err(of_nv_error(error)),
+        if rest.is_empty() {
+            return Ok(PackageNvReference { nv, sub_path: None });
+        }
+        let Some(path) = after(rest, '/') else {
+            drop(nv);
+            return Err(of_nv_error(unexpected(alloc, text)));
+        };
+        match PackageSubPath::from_str(alloc, path) {
+            Ok(path) => Ok(PackageNvReference {
+                nv,
+                sub_path: Some(path),
+            }),
+            Err(_) => {
+                drop(nv);
+                Err(of_nv_error(memory(alloc)))
+            }
         }
     }
 
@@ -166,24 +148,5 @@ impl SpecifierError {
         ensures { IsTrue result ↔ (self.now ≡ SpecifierError.Memory) }
     {
         matches!(self, SpecifierError::Memory)
-    }
-}
-
-/// The URL of the scheme, `/` and the text of a reference.
-pub(crate) fn specifier_of(
-    alloc: Global,
-    kind: PackageKind,
-    reference: &PackageNvReference,
-) -> Result<Url, SpecifierError>
-    ensures { IsSpecifier (specifier_text kind reference.now) result }
-{
-    let scheme = kind.scheme_with_colon();
-    let Ok(text) = format!(in alloc; "{scheme}/{reference}") else {
-        return Err(SpecifierError::Memory);
-    };
-    match Url::parse(alloc, text.as_str()) {
-        Ok(url) => Ok(url),
-        Err(ParseError::OutOfMemory | ParseError::Overflow) => Err(SpecifierError::Memory),
-        Err(_) => Err(SpecifierError::Url),
     }
 }

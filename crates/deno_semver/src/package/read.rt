@@ -1,15 +1,14 @@
 //! Parsing of package requirements, and their canonical forms.
 
-ghost use Rattle.std.specs.Prelude.{◌≡◌, ◌⊎◌, IfErr, IfOk, Ok, Result, string_bytes};
+ghost use Rattle.std.specs.Prelude.{◌≡◌, IfErr, IfOk, Ok, Result, string_bytes};
 ghost use Rattle.std.specs.Option.{option_copied};
-ghost use Rattle.deno_semver.specs.PackageOutcome.{PackageFault, IsPackageAnswer, IsPackageOutcome, IsPackageRejection, IsOutOfMemory, IsVersionReq, rejected_by};
-ghost use Rattle.deno_semver.specs.PackageReading.{IsPartsRejection, IsReadPackage, ReportsSource};
-ghost use Rattle.deno_semver.specs.ReferenceReading.{IsFrontError, IsReadWithPath};
+ghost use Rattle.deno_semver.specs.PackageOutcome.{PackageFault, IsPackageAnswer, IsPackageOutcome, IsPackageRejection, IsVersionReq, rejected_by};
+ghost use Rattle.deno_semver.specs.PackageReading.{IsPartsRejection, IsReadPackage};
 ghost use Rattle.deno_semver.specs.declared.package.values.PackageReq.{PackageReq};
 ghost use Rattle.semver_req.specs.declared.common.values.Flavour.TheVariants.{Normal, Npm, Specifier};
 ghost use Rattle.deno_semver.specs.RequirementText.{normal_req_text};
 
-use super::cut::{Cut, lacks_at, parts_of};
+use super::cut::{Cut, parts_of, starts_with_at};
 use super::errors::{PackageReqParseError, PackageReqPartsParseError};
 use super::values::{PackageName, PackageReq};
 use semver_base::failure::ParseFailure;
@@ -56,9 +55,9 @@ fn version_req(
     }
 }
 
-// The package requirement made of a name and a version's text.
+/// The package requirement made of a name and a version's text.
 #[inline(always)]
-fn req_of(
+pub(crate) fn req_of(
     alloc: Global,
     cut: Cut<'_>,
     flavour: Flavour,
@@ -78,27 +77,6 @@ fn req_of(
             drop(name);
             Err(error)
         }
-    }
-}
-
-/// Parses the package requirement at the start of a text. Returns it with the path after it, with its `/` and without, or the
-/// first fault; a path isn't one.
-#[inline(always)]
-pub(crate) fn read_with_path(
-    alloc: Global,
-    text: &str,
-    flavour: Flavour,
-) -> Result<(PackageReq, &str, &str), PackageReqPartsParseError>
-    ensures read { IfOk result (λ r. IsReadWithPath flavour text.now r.0 r.1.now r.2.now) }
-    ensures rejected { IfErr result (IsFrontError flavour text.now) }
-{
-    let cut = match parts_of(text) {
-        Ok(cut) => cut,
-        Err(error) => return Err(error),
-    };
-    match req_of(alloc, cut, flavour) {
-        Ok(req) => Ok((req, cut.tail, cut.path)),
-        Err(error) => Err(error),
     }
 }
 
@@ -131,31 +109,6 @@ fn read(
     Err(version_error(Flavour::Specifier, source))
 }
 
-// The error with the whole text, or out of memory; a missing `@` goes before any other fault.
-fn whole_error(alloc: Global, text: &str, source: PackageReqPartsParseError) -> PackageReqParseError
-    ensures { IsOutOfMemory result ⊎ ReportsSource text.now source result }
-{
-    if source.is_memory() {
-        drop(source);
-        return PackageReqParseError::memory(alloc);
-    }
-    let Ok(whole) = StackString::from_str(alloc, text) else {
-        drop(source);
-        return PackageReqParseError::memory(alloc);
-    };
-    if lacks_at(text) {
-        drop(source);
-        return PackageReqParseError {
-            text: whole,
-            source: PackageReqPartsParseError::MissingAtSymbol,
-        };
-    }
-    PackageReqParseError {
-        text: whole,
-        source,
-    }
-}
-
 /// Parses a package requirement, with the grammar of a flavour for its version.
 pub(crate) fn package_req(
     alloc: Global,
@@ -169,10 +122,30 @@ pub(crate) fn package_req(
         → IsPackageAnswer flavour text.now outcome result }
 {
     texts_have_one_outcome();
-    match read(alloc, text, flavour) {
-        Ok(req) => Ok(req),
-        Err(source) => Err(whole_error(alloc, text, source)),
+    let source = match read(alloc, text, flavour) {
+        Ok(req) => return Ok(req),
+        Err(source) => source,
+    };
+    if source.is_memory() {
+        drop(source);
+        return Err(PackageReqParseError::memory(alloc));
     }
+    let Ok(whole) = StackString::from_str(alloc, text) else {
+        drop(source);
+        return Err(PackageReqParseError::memory(alloc));
+    };
+    // A text that contains a `/` lacks the `@` at its beginning, which goes before any other fault.
+    if text.as_bytes().contains(&b'/') && !starts_with_at(text) {
+        drop(source);
+        return Err(PackageReqParseError {
+            text: whole,
+            source: PackageReqPartsParseError::MissingAtSymbol,
+        });
+    }
+    Err(PackageReqParseError {
+        text: whole,
+        source,
+    })
 }
 
 /// The name, `@`, and the version requirement's canonical form. Fails only out of memory.

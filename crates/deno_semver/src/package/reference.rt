@@ -1,17 +1,17 @@
 //! References to packages: a package requirement and the path of a module in it.
 
 ghost use Rattle.std.specs.Prelude.{◌≡◌, IfErr, IfOk, Ok, Result, Some, refl};
-ghost use Rattle.deno_semver.specs.ReferenceOutcome.{IsReferenceAnswer, IsReferenceOutcome, IsReferenceRejection, ReferenceFault, ReferenceReadsBack};
-ghost use Rattle.deno_semver.specs.ReferenceReading.{FindsVersion, IsReferenceRead, IsReportedInvalid, IsReportedVersion};
+ghost use Rattle.deno_semver.specs.ReferenceOutcome.{InvalidPathWithVersion, IsReferenceAnswer, IsReferenceOutcome, IsReferenceRejection, ReferenceFault, ReferenceReadsBack, unboxed};
+ghost use Rattle.deno_semver.specs.ReferenceReading.{FindsVersion, IsReferenceRead, IsReportedInvalid};
 ghost use Rattle.deno_semver.specs.ReferenceText.{reference_text, text_with_version};
 ghost use Rattle.deno_semver.specs.declared.package.reference.PackageReqReference.{PackageReqReference};
 
-use super::cut::name_and_version;
+use super::cut::{name_and_version, parts_of};
 use super::errors::{
     PackageReqPartsParseError, PackageReqReferenceInvalidParseError,
     PackageReqReferenceInvalidWithVersionParseError, PackageReqReferenceParseError,
 };
-use super::read::read_with_path;
+use super::read::req_of;
 use super::values::{PackageKind, PackageReq, PackageSubPath, copied_sub_path};
 use semver_base::string::{StackString, StringAppendable};
 use semver_req::common::values::Flavour;
@@ -33,17 +33,21 @@ pub struct PackageReqReference {
 fn read(alloc: Global, body: &str) -> Result<PackageReqReference, PackageReqPartsParseError>
     ensures { IsReferenceRead body.now result }
 {
-    let (req, _, path) = match read_with_path(alloc, body, Flavour::Specifier) {
-        Ok(front) => front,
+    let cut = match parts_of(body) {
+        Ok(cut) => cut,
         Err(error) => return Err(error),
     };
-    if matches!(path, "" | "/") {
+    let req = match req_of(alloc, cut, Flavour::Specifier) {
+        Ok(req) => req,
+        Err(error) => return Err(error),
+    };
+    if matches!(cut.path, "" | "/") {
         return Ok(PackageReqReference {
             req,
             sub_path: None,
         });
     }
-    match PackageSubPath::from_str(alloc, path) {
+    match PackageSubPath::from_str(alloc, cut.path) {
         Ok(path) => Ok(PackageReqReference {
             req,
             sub_path: Some(path),
@@ -94,47 +98,29 @@ fn version_in_path(reference: &PackageReqReference) -> Option<(&str, &str)>
     }
 }
 
-// The texts of the error for a version in the path.
-fn texts(
-    alloc: Global,
-    kind: PackageKind,
-    reference: &PackageReqReference,
-    before: &str,
-    version: &str,
-) -> Result<PackageReqReferenceInvalidWithVersionParseError, AllocError>
-    ensures { IfOk result (λ error. error ≡ record {
-      kind = kind;
-      current = reference_text reference.now;
-      suggested = text_with_version reference.now.req version.now before.now;
-    }) }
-{
-    let req = &reference.req;
-    let current = StackString::from_string(alloc, format!(in alloc; "{reference}")?)?;
-    let suggested = format!(in alloc; "{req}@{version}/{before}")?;
-    Ok(PackageReqReferenceInvalidWithVersionParseError {
-        kind,
-        current,
-        suggested: StackString::from_string(alloc, suggested)?,
-    })
-}
-
-// The error for a version in the path, or out of memory.
+// The error for a version in the path.
 fn reported(
     alloc: Global,
     kind: PackageKind,
     reference: &PackageReqReference,
     before: &str,
     version: &str,
-) -> PackageReqReferenceParseError
-    ensures { IsReportedVersion kind reference.now before.now version.now result }
+) -> Result<PackageReqReferenceParseError, AllocError>
+    ensures { IfOk result (λ e. unboxed e ≡ InvalidPathWithVersion (record {
+      kind = kind;
+      current = reference_text reference.now;
+      suggested = text_with_version reference.now.req version.now before.now;
+    })) }
 {
-    let Ok(error) = texts(alloc, kind, reference, before, version) else {
-        return PackageReqReferenceParseError::Memory;
+    let req = &reference.req;
+    let current = StackString::from_string(alloc, format!(in alloc; "{reference}")?)?;
+    let suggested = format!(in alloc; "{req}@{version}/{before}")?;
+    let error = PackageReqReferenceInvalidWithVersionParseError {
+        kind,
+        current,
+        suggested: StackString::from_string(alloc, suggested)?,
     };
-    match Box::new(alloc, error) {
-        Ok(error) => PackageReqReferenceParseError::InvalidPathWithVersion(error),
-        Err(_) => PackageReqReferenceParseError::Memory,
-    }
+    Ok(PackageReqReferenceParseError::InvalidPathWithVersion(Box::new(alloc, error)?))
 }
 
 impl PackageReqReference {
@@ -161,7 +147,10 @@ impl PackageReqReference {
             Err(source) => return Err(invalid(alloc, text, source)),
         };
         if let Some((before, version)) = version_in_path(&reference) {
-            let error = reported(alloc, kind, &reference, before, version);
+            let error = match reported(alloc, kind, &reference, before, version) {
+                Ok(error) => error,
+                Err(_) => PackageReqReferenceParseError::Memory,
+            };
             drop(reference);
             return Err(error);
         }

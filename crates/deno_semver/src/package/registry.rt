@@ -13,16 +13,14 @@ ghost use Rattle.deno_semver.specs.declared.package.nv_reference.PackageNvRefere
 ghost use Rattle.deno_semver.specs.declared.package.reference.PackageReqReference.{PackageReqReference};
 
 use super::errors::PackageReqReferenceParseError;
-use super::nv_reference::{
-    PackageNvReference, PackageNvReferenceParseError, SpecifierError, specifier_of,
-};
+use super::nv_reference::{PackageNvReference, PackageNvReferenceParseError, SpecifierError};
 use super::reference::PackageReqReference;
 use super::values::{PackageKind, PackageNv, PackageReq, sub_path_text};
 use semver_base::string::StringAppendable;
 use std::alloc::{AllocError, Global};
 use std::fmt;
 use std::marker::{Model, PhantomData};
-use url::Url;
+use url::{ParseError, Url};
 
 /// A reference's registry, as a type.
 pub trait Registry {
@@ -231,7 +229,15 @@ impl<R: Registry> RegistryNvReference<R> {
     pub fn as_specifier(&self, alloc: Global) -> Result<Url, SpecifierError>
         ensures { IsSpecifier (specifier_text R.kind self.now) result }
     {
-        specifier_of(alloc, R::kind(), &self.reference)
+        let (scheme, reference) = (R::kind().scheme_with_colon(), &self.reference);
+        let Ok(text) = format!(in alloc; "{scheme}/{reference}") else {
+            return Err(SpecifierError::Memory);
+        };
+        match Url::parse(alloc, text.as_str()) {
+            Ok(url) => Ok(url),
+            Err(ParseError::OutOfMemory | ParseError::Overflow) => Err(SpecifierError::Memory),
+            Err(_) => Err(SpecifierError::Url),
+        }
     }
 
     /// Returns the name and version.

@@ -1,4 +1,4 @@
-use Rattle.std.proofs.Common.{inr, refl}
+use Rattle.std.proofs.Common.{inr, refl, rules}
 use Rattle.deno_semver.specs.ReferenceOutcome.{OtherScheme, is_reference, other_scheme}
 use Rattle.deno_semver.proofs.References.{read_answer, rejected_answer, rejected_text, rejected_version}
 use Rattle.deno_semver.proofs.ReferencesBack.{reads_back}
@@ -17,10 +17,10 @@ pub returns-in-Err-clause-answer : goal.returns-in-Err-clause-answer
 returns-in-Err-clause-answer c = rejected_answer c.texts_have_one_outcome.ensures (rejected_text c.in-Some.ensures c.in-Err.ensures c.invalid.ensures)
 
 pub returns-in-Some-version_in_path-clause-rejected : goal.returns-in-Some-version_in_path-clause-rejected
-returns-in-Some-version_in_path-clause-rejected c = rejected_version c.in-Some.ensures c.in-Ok.ensures c.in-Some-version_in_path.ensures c.reported-error.ensures
+returns-in-Some-version_in_path-clause-rejected c = rejected_version c.in-Some.ensures c.in-Ok.ensures c.in-Some-version_in_path.ensures (search rules)
 
 pub returns-in-Some-version_in_path-clause-answer : goal.returns-in-Some-version_in_path-clause-answer
-returns-in-Some-version_in_path-clause-answer c = rejected_answer c.texts_have_one_outcome.ensures (rejected_version c.in-Some.ensures c.in-Ok.ensures c.in-Some-version_in_path.ensures c.reported-error.ensures)
+returns-in-Some-version_in_path-clause-answer c = rejected_answer c.texts_have_one_outcome.ensures (rejected_version c.in-Some.ensures c.in-Ok.ensures c.in-Some-version_in_path.ensures (search rules))
 
 pub returns-clause-read : goal.returns-clause-read
 returns-clause-read c = is_reference c.in-Some.ensures c.in-Ok.ensures c.in_default-version_in_path.ensures
