@@ -1,13 +1,13 @@
 -- The result for JSON, from the results for its members and items.
-use Rattle.std.proofs.Common.{◌≡◌, ◌<◌, ◌+◌, ℕ, List, [], ◌∷◌, ◌++◌, length, map, take, drop, get_or, Option, Some, None, option_map, Result, Ok, Err, Ordering, Less, Equal, Greater, string_bytes, nat_cmp, is_eq, codes, false, refl, sym, ap, ◌∙◌, inl, inr, arith, MatchOption, IfErr, OnOk, IsErrAnd, is_err}
+use Rattle.std.proofs.Common.{◌≡◌, ◌<◌, ◌+◌, ℕ, List, [], ◌∷◌, ◌++◌, length, map, take, drop, get_or, Option, Some, None, option_map, Result, Ok, Err, Ordering, Less, Equal, Greater, string_bytes, nat_cmp, is_eq, codes, false, refl, sym, ap, subst, ◌∙◌, inl, inr, arith, MatchOption, IfErr, OnOk, IsErrAnd, is_err}
 use Rattle.std.proofs.lemmas.Cmp.{nat_list_cmp_total, tied_itself}
 use Rattle.std.proofs.lemmas.List.{drop_more, map-append, take-append-drop, take_more}
 use Rattle.std.proofs.lemmas.Map.Text.{is_eq-slice_cmp}
 use Rattle.std.proofs.lemmas.Slice.Eq.{bytes_eq-Decides}
 use Rattle.std.specs.Cmp.Lexicographic.{slice_cmp}
 use Rattle.std.specs.Ordering.{match_ordering}
-use Rattle.serde_json.specs.Data.{Data, null, boolean, number, string, array, object, Members, member, no_members}
-use Rattle.serde_json.specs.Find.{as_object, get}
+use Rattle.serde_json.specs.Data.{Data, null, boolean, number, string, array, object, Items, Members, member, no_members}
+use Rattle.serde_json.specs.Find.{as_array, as_object, get}
 use Rattle.serde_json.specs.View.{items_of, members_view, view}
 use Rattle.serde_json.proofs.Views.{Entry}
 use Rattle.semver_base.specs.declared.range.RangeBound.{RangeBound}
@@ -88,8 +88,19 @@ module _ {T : Type 0} (ParsesTo : Data → T → Type 0) where
         rw (next_items vs i v h is, e) (one_more (map view (take i vs)) xs (view v) x before.0 read, only_more (map view (take i vs)) xs (view v) x before.1 only)
 
     -- the next item parses to a value if they all do
-    pub item_of : (vs : List V) (i : ℕ) (v : V) → i < length vs → v ≡ get_or vs i v → (ys : List T) → AreItemsOf ParsesTo (items_of (map view vs)) ys → (y : T) × ParsesTo (view v) y
+    item_of : (vs : List V) (i : ℕ) (v : V) → i < length vs → v ≡ get_or vs i v → (ys : List T) → AreItemsOf ParsesTo (items_of (map view vs)) ys → (y : T) × ParsesTo (view v) y
     item_of vs i v h is ys read = last_of (map view (take i vs)) (view v) (map view (drop (i + 1) vs)) ys (rw (whole_items vs i v h is) at read)
+
+    -- an array of the items parses to what they parse to
+    pub array_items : (vs : List V) (d : Data) (items : Items) (ys : List T) → Some (items_of (map view vs)) ≡ as_array d → d ≡ array items → AreItemsOf ParsesTo items ys → AreItemsOf ParsesTo (items_of (map view vs)) ys
+    array_items vs d items ys all array_is read =
+        let both : Some (items_of (map view vs)) ≡ Some items = all ∙ ap as_array array_is in
+        let same : items ≡ items_of (map view vs) = cc both in
+        subst (λ ds. AreItemsOf ParsesTo ds ys) same read
+
+    pub item_read : (vs : List V) (i : ℕ) (v : V) → i < length vs → v ≡ get_or vs i v → (d : Data) (items : Items) (ys : List T) → Some (items_of (map view vs)) ≡ as_array d → d ≡ array items → AreItemsOf ParsesTo items ys
+        → (y : T) × ParsesTo (view v) y
+    item_read vs i v h is d items ys all array_is read = item_of vs i v h is ys (array_items vs d items ys all array_is read)
 
 -- ---- the only member
 

@@ -99,6 +99,13 @@ scoped_with (Some scope) name x = append_assoc scope (47 ∷ name) x
 all_back : (p : ℕ → Bool) (xs ys : List ℕ) → list_all p (xs ++ ys) ≡ true → list_all p ys ≡ true
 all_back p xs ys h = (and_parts (list_all p xs) (list_all p ys) (sym (list_all-append p xs ys) ∙ h)).1
 
+-- without an `@` in the path there is no version in it
+pub no_version_in : (r : PackageReqReference) (path : List ℕ) → r.sub_path ≡ Some path → list_all (is_not 64) path ≡ true → HasNoVersionInPath r
+no_version_in r path is none before version h =
+    let both : Some path ≡ Some (before ++ (64 ∷ version)) = sym is ∙ h.path in
+    let same : path ≡ before ++ (64 ∷ version) = cc both in
+    cc (all_back (is_not 64) before (64 ∷ version) (sym (ap (list_all (is_not 64)) same) ∙ none))
+
 -- a last part that is a name alone, or is followed by a version
 not_empty : (last name : List ℕ) (version : Option (List ℕ)) → IsNamePart last name version → starts_with_at last ≡ false → 0 < length last → (0 < length name) × (starts_with_at name ≡ false)
 not_empty last name None h at some = (rw (ap length (sym h.0)) some, rw (sym h.0) at)

@@ -6,7 +6,7 @@ use Rattle.semver_req.specs.declared.common.values.Flavour.TheVariants.{Specifie
 use Rattle.deno_semver.specs.Kind.{scheme_of}
 use Rattle.deno_semver.specs.PackageOutcome.{PackageFault, IsFirstPackageFault, IsVersionReq, Reports}
 use Rattle.deno_semver.specs.PackageText.{IsPackageText, IsPathPart, PackageParts, scoped_name}
-use Rattle.deno_semver.specs.ReferenceOutcome.{HasNoVersionInPath, HasVersionInPath, Invalid, InvalidPathWithVersion, IsOfReference, IsReadReference, Memory, unboxed}
+use Rattle.deno_semver.specs.ReferenceOutcome.{Invalid, InvalidPathWithVersion, IsOfReference, IsReadReference, Memory, unboxed}
 use Rattle.deno_semver.specs.ReferenceText.{LacksScheme, reference_text, text_with_version}
 use Rattle.deno_semver.specs.declared.package.errors.PackageReqPartsParseError.{PackageReqPartsParseError}
 use Rattle.deno_semver.specs.declared.package.errors.PackageReqPartsParseError.TheVariants as parts
@@ -35,11 +35,6 @@ IsFrontError f text e =
 
 abbrev pub IsReferenceRead : List ℕ → Result PackageReqReference PackageReqPartsParseError → Type 0
 IsReferenceRead body result = MatchResult result (IsReadReference body) (IsFrontError Specifier body)
-
--- the version in the path, and the text before it
-abbrev pub FindsVersion : PackageReqReference → Option (Bor (List ℕ) × Bor (List ℕ)) → Type 0
-FindsVersion reference r =
-    MatchOption r (HasNoVersionInPath reference) (λ p. HasVersionInPath reference p.0.now p.1.now)
 
 -- the error shows the whole text and what is wrong in it, or is out of memory
 abbrev pub IsReportedInvalid : List ℕ → PackageReqPartsParseError → PackageReqReferenceParseError → Type 0

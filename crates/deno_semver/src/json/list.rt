@@ -1,8 +1,7 @@
 //! Lists of package requirements as JSON.
 
 ghost use Rattle.std.specs.Prelude.{◌≡◌, All, IfErr, IfOk, IsSorted, List, MatchResult};
-ghost use Rattle.serde_json.specs.View.{items_view, view};
-ghost use Rattle.deno_semver.specs.Json.{AreItemsOf};
+ghost use Rattle.serde_json.specs.View.{view};
 ghost use Rattle.deno_semver.specs.JsonAnswers.{IsJsonRejection};
 ghost use Rattle.deno_semver.specs.ReqOrder.{req_cmp};
 ghost use Rattle.deno_semver.specs.Stored.{IsStableReq};
@@ -31,23 +30,6 @@ pub fn reqs_to_json(alloc: Global, reqs: &[PackageReq]) -> Result<Value, AllocEr
     Ok(Value::Array(items_json(alloc, reqs)?))
 }
 
-// The values that the items parse to, in order.
-fn of_items<T: JsonForm>(alloc: Global, items: &[Value]) -> Result<Vec<T>, JsonError>
-    ensures read { IfOk result
-        (λ values. AreItemsOf T.parses_to (items_view items.now) values.items) }
-    ensures answer { (values : List T) → AreItemsOf T.parses_to (items_view items.now) values
-        → MatchResult result (λ read. read.items ≡ values) (λ e. e ≡ JsonError.Memory) }
-{
-    let mut values = Vec::new(alloc);
-    for item in items {
-        let value = T::from_json(alloc, item)?;
-        if values.push(value).is_err() {
-            return Err(JsonError::Memory);
-        }
-    }
-    Ok(values)
-}
-
 /// Parses an array to package requirements, each as often as it occurs, in ascending order. The order among equal ones is
 /// unspecified.
 ///
@@ -66,7 +48,14 @@ pub fn reqs_from_json(alloc: Global, value: &Value) -> Result<Vec<PackageReq>, J
         return Err(JsonError::Json);
     };
     ascending_arrangements_tie::<PackageReq>();
-    let mut reqs = of_items::<PackageReq>(alloc, items.as_slice())?;
+    let items = items.as_slice();
+    let mut reqs = Vec::new(alloc);
+    for item in items {
+        let req = PackageReq::from_json(alloc, item)?;
+        if reqs.push(req).is_err() {
+            return Err(JsonError::Memory);
+        }
+    }
     reqs.sort()?;
     Ok(reqs)
 }

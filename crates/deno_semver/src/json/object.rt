@@ -1,10 +1,10 @@
 //! Values whose JSON is an object or an array.
 
-ghost use Rattle.std.specs.Prelude.{◌≡◌, IfOk, List, OnOk, map};
+ghost use Rattle.std.specs.Prelude.{◌≡◌, IfOk, OnOk, map};
 ghost use Rattle.serde_json.specs.Data.{member, put as with_member};
-ghost use Rattle.serde_json.specs.View.{items_view, members_view, view};
+ghost use Rattle.serde_json.specs.View.{members_view, view};
 ghost use Rattle.semver_base.specs.declared.range.VersionRange.{VersionRange};
-ghost use Rattle.deno_semver.specs.Json.{AreItemsOf, IsJsonOfBound, IsJsonOfRange, IsJsonOfRangeBound, IsJsonOfSet, IsJsonOfVersionReq, IsMemberOf, bound_json, range_bound_json, range_json, set_json, version_req_json};
+ghost use Rattle.deno_semver.specs.Json.{IsJsonOfBound, IsJsonOfRange, IsJsonOfRangeBound, IsJsonOfSet, IsJsonOfVersionReq, IsMemberOf, bound_json, range_bound_json, range_json, set_json, version_req_json};
 ghost use Rattle.deno_semver.specs.JsonAnswers.{IsJsonAnswer};
 
 use super::{JsonError, JsonForm};
@@ -143,23 +143,6 @@ pub(super) fn items_json<T: JsonForm>(alloc: Global, values: &[T]) -> Result<Vec
     Ok(items)
 }
 
-// The ranges that the items parse to, in order.
-fn of_items(alloc: Global, items: &[Value]) -> Result<CowVec<VersionRange>, JsonError>
-    ensures read { IfOk result (AreItemsOf IsJsonOfRange (items_view items.now)) }
-    ensures answer { (ranges : List VersionRange)
-        → AreItemsOf IsJsonOfRange (items_view items.now) ranges
-        → IsJsonAnswer ranges result }
-{
-    let mut ranges = CowVec::new(alloc);
-    for item in items {
-        let range = VersionRange::from_json(alloc, item)?;
-        if ranges.push(range).is_err() {
-            return Err(JsonError::Memory);
-        }
-    }
-    Ok(ranges)
-}
-
 /// The array of the ranges.
 impl JsonForm for VersionRangeSet {
     ghost json = { set_json };
@@ -172,10 +155,15 @@ impl JsonForm for VersionRangeSet {
     }
 
     fn from_json(alloc: Global, value: &Value) -> Result<Self, JsonError> {
-        match value.as_array() {
-            Some(items) => Ok(VersionRangeSet(of_items(alloc, items.as_slice())?)),
-            None => Err(JsonError::Json),
+        let Some(items) = value.as_array() else {
+            return Err(JsonError::Json);
+        };
+        let items = items.as_slice();
+        let mut ranges = CowVec::new(alloc);
+        for item in items {
+            ranges.push(VersionRange::from_json(alloc, item)?)?;
         }
+        Ok(VersionRangeSet(ranges))
     }
 }
 

@@ -53,8 +53,8 @@ fn path_of(tail: &str) -> &str
     }
 }
 
-/// The texts before and after the last `@`.
-pub(crate) fn name_and_version(last: &str) -> (&str, Option<&str>)
+// The texts before and after the last `@`.
+fn name_and_version(last: &str) -> (&str, Option<&str>)
     ensures { IsNamePart last.now result.0.now (option_copied result.1) }
 {
     match last.rsplit_once('@') {

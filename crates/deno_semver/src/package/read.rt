@@ -29,33 +29,8 @@ fn version_error(flavour: Flavour, source: ParseFailure) -> PackageReqPartsParse
     }
 }
 
-// Parses a version requirement by the grammar of a flavour; without a text, any version matches.
-#[inline(always)]
-fn version_req(
-    alloc: Global,
-    text: Option<&str>,
-    flavour: Flavour,
-) -> Result<VersionReq, PackageReqPartsParseError>
-    ensures read { IfOk result (IsVersionReq flavour (option_copied text.entry)) }
-    ensures rejected { IfErr result (IsPartsRejection flavour (option_copied text.entry)) }
-{
-    match text {
-        Some(text) => match VersionReq::parse(alloc, text, flavour) {
-            Ok(req) => Ok(req),
-            Err(failure) if failure.is_memory() => {
-                drop(failure);
-                Err(PackageReqPartsParseError::Memory)
-            }
-            Err(failure) => Err(version_error(flavour, failure)),
-        },
-        None => match wildcard_version_req(alloc) {
-            Ok(req) => Ok(req),
-            Err(_) => Err(PackageReqPartsParseError::Memory),
-        },
-    }
-}
-
-/// The package requirement made of a name and a version's text.
+/// The package requirement made of a name and a version's text, parsed by the grammar of a flavour; without a text, any version
+/// matches.
 #[inline(always)]
 pub(crate) fn req_of(
     alloc: Global,
@@ -71,13 +46,25 @@ pub(crate) fn req_of(
         Ok(name) => name,
         Err(_) => return Err(PackageReqPartsParseError::Memory),
     };
-    match version_req(alloc, cut.version, flavour) {
-        Ok(version_req) => Ok(PackageReq { name, version_req }),
-        Err(error) => {
-            drop(name);
-            Err(error)
-        }
+    let Some(version) = cut.version else {
+        return match wildcard_version_req(alloc) {
+            Ok(version_req) => Ok(PackageReq { name, version_req }),
+            Err(_) => {
+                drop(name);
+                Err(PackageReqPartsParseError::Memory)
+            }
+        };
+    };
+    let failure = match VersionReq::parse(alloc, version, flavour) {
+        Ok(version_req) => return Ok(PackageReq { name, version_req }),
+        Err(failure) => failure,
+    };
+    drop(name);
+    if failure.is_memory() {
+        drop(failure);
+        return Err(PackageReqPartsParseError::Memory);
     }
+    Err(version_error(flavour, failure))
 }
 
 // Parses a package requirement, or returns the first fault.

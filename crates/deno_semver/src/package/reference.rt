@@ -2,11 +2,11 @@
 
 ghost use Rattle.std.specs.Prelude.{◌≡◌, IfErr, IfOk, Ok, Result, Some, refl};
 ghost use Rattle.deno_semver.specs.ReferenceOutcome.{InvalidPathWithVersion, IsReferenceAnswer, IsReferenceOutcome, IsReferenceRejection, ReferenceFault, ReferenceReadsBack, unboxed};
-ghost use Rattle.deno_semver.specs.ReferenceReading.{FindsVersion, IsReferenceRead, IsReportedInvalid};
+ghost use Rattle.deno_semver.specs.ReferenceReading.{IsReferenceRead, IsReportedInvalid};
 ghost use Rattle.deno_semver.specs.ReferenceText.{reference_text, text_with_version};
 ghost use Rattle.deno_semver.specs.declared.package.reference.PackageReqReference.{PackageReqReference};
 
-use super::cut::{name_and_version, parts_of};
+use super::cut::parts_of;
 use super::errors::{
     PackageReqPartsParseError, PackageReqReferenceInvalidParseError,
     PackageReqReferenceInvalidWithVersionParseError, PackageReqReferenceParseError,
@@ -82,22 +82,6 @@ fn invalid(
     }
 }
 
-// The text before the version in the path, and that version, if the version requirement's text is `*`.
-fn version_in_path(reference: &PackageReqReference) -> Option<(&str, &str)>
-    ensures { FindsVersion reference.now result }
-{
-    if reference.req.version_req.version_text() != "*" {
-        return None;
-    }
-    let Some(path) = &reference.sub_path else {
-        return None;
-    };
-    match name_and_version(path.as_str()) {
-        (before, Some(version)) => Some((before, version)),
-        (_, None) => None,
-    }
-}
-
 // The error for a version in the path.
 fn reported(
     alloc: Global,
@@ -146,7 +130,10 @@ impl PackageReqReference {
             Ok(reference) => reference,
             Err(source) => return Err(invalid(alloc, text, source)),
         };
-        if let Some((before, version)) = version_in_path(&reference) {
+        if reference.req.version_req.version_text() == "*"
+            && let Some(path) = &reference.sub_path
+            && let Some((before, version)) = path.as_str().rsplit_once('@')
+        {
             let error = match reported(alloc, kind, &reference, before, version) {
                 Ok(error) => error,
                 Err(_) => PackageReqReferenceParseError::Memory,

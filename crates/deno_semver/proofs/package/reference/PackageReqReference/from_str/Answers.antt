@@ -1,7 +1,11 @@
-use Rattle.std.proofs.Common.{inr, refl, rules}
-use Rattle.deno_semver.specs.ReferenceOutcome.{OtherScheme, is_reference, other_scheme}
+use Rattle.std.proofs.Common.{◌≡◌, true, None, Some, inr, refl, sym, ap, subst, ◌∙◌, rules}
+use Rattle.std.specs.List.{list_all}
+use Rattle.deno_semver.specs.Cuts.{is_not}
+use Rattle.deno_semver.specs.ReferenceOutcome.{HasNoVersionInPath, HasVersionInPath, OtherScheme, is_reference, other_scheme}
+use Rattle.deno_semver.proofs.PackageText.{at_last, no_at}
 use Rattle.deno_semver.proofs.References.{read_answer, rejected_answer, rejected_text, rejected_version}
-use Rattle.deno_semver.proofs.ReferencesBack.{reads_back}
+use Rattle.deno_semver.proofs.ReferencesBack.{no_version_in, reads_back}
+use Rattle.deno_semver.proofs.package.reference.PackageReqReference.from_str.Goals.{else-eq-via-else-eq, else-eq-via-then-eq+in-None-1, else-eq-via-then-eq+in-Some-sub_path+in-None-1}
 use Rattle.deno_semver.proofs.package.reference.PackageReqReference.from_str.Goals as goal
 
 pub returns-in_default-clause-rejected : goal.returns-in_default-clause-rejected
@@ -16,17 +20,32 @@ returns-in-Err-clause-rejected c = rejected_text c.in-Some.ensures c.in-Err.ensu
 pub returns-in-Err-clause-answer : goal.returns-in-Err-clause-answer
 returns-in-Err-clause-answer c = rejected_answer c.texts_have_one_outcome.ensures (rejected_text c.in-Some.ensures c.in-Err.ensures c.invalid.ensures)
 
-pub returns-in-Some-version_in_path-clause-rejected : goal.returns-in-Some-version_in_path-clause-rejected
-returns-in-Some-version_in_path-clause-rejected c = rejected_version c.in-Some.ensures c.in-Ok.ensures c.in-Some-version_in_path.ensures (search rules)
+found : (c : goal.After-drop) → HasVersionInPath c.in-Ok.reference c.in-Some-rsplit_once.before.now c.in-Some-rsplit_once.version.now
+found c =
+    let at = at_last c.as_str.result.now c.in-Some-rsplit_once.before.now c.in-Some-rsplit_once.version.now c.in-Some-rsplit_once.ensures.cases in
+    record { any = search rules; path = c.in-Some-sub_path.is ∙ ap Some (sym c.as_str.ensures.value ∙ at.0); last_at = at.1 }
 
-pub returns-in-Some-version_in_path-clause-answer : goal.returns-in-Some-version_in_path-clause-answer
-returns-in-Some-version_in_path-clause-answer c = rejected_answer c.texts_have_one_outcome.ensures (rejected_version c.in-Some.ensures c.in-Ok.ensures c.in-Some-version_in_path.ensures (search rules))
-
-pub returns-clause-read : goal.returns-clause-read
-returns-clause-read c = is_reference c.in-Some.ensures c.in-Ok.ensures c.in_default-version_in_path.ensures
+pub returns-clause-rejected : goal.returns-clause-rejected
+returns-clause-rejected c = rejected_version c.in-Some.ensures c.in-Ok.ensures (found c) (search rules)
 
 pub returns-clause-answer : goal.returns-clause-answer
-returns-clause-answer c = read_answer c.texts_have_one_outcome.ensures c.in-Ok.reference (is_reference c.in-Some.ensures c.in-Ok.ensures c.in_default-version_in_path.ensures)
+returns-clause-answer c = rejected_answer c.texts_have_one_outcome.ensures (rejected_version c.in-Some.ensures c.in-Ok.ensures (found c) (search rules))
 
-pub returns-clause-reads_back : goal.returns-clause-reads_back
-returns-clause-reads_back c = reads_back c.texts_have_one_outcome.ensures c.star_is_any_version.ensures c.args.kind c.in-Ok.reference c.in-Ok.ensures c.in_default-version_in_path.ensures
+none : (c : goal.Joined-else-eq) → HasNoVersionInPath c.in-Ok.reference
+none c = elim c.else-eq.branch [
+  | else-eq-via-else-eq w ↦ search rules
+  | else-eq-via-then-eq+in-None-1 w ↦ search rules
+  | else-eq-via-then-eq+in-Some-sub_path+in-None-1 w ↦
+      let lacks : w.rsplit_once.result ≡ None = search rules in
+      let no_sign = no_at w.as_str.result.now (rw lacks at w.rsplit_once.ensures.cases) in
+      no_version_in c.in-Ok.reference w.in-Some-sub_path.path w.in-Some-sub_path.is (subst (λ path. list_all (is_not 64) path ≡ true) w.as_str.ensures.value no_sign.1)
+]
+
+pub returns-2-clause-read : goal.returns-2-clause-read
+returns-2-clause-read c = is_reference c.in-Some.ensures c.in-Ok.ensures (none c)
+
+pub returns-2-clause-answer : goal.returns-2-clause-answer
+returns-2-clause-answer c = read_answer c.texts_have_one_outcome.ensures c.in-Ok.reference (is_reference c.in-Some.ensures c.in-Ok.ensures (none c))
+
+pub returns-2-clause-reads_back : goal.returns-2-clause-reads_back
+returns-2-clause-reads_back c = reads_back c.texts_have_one_outcome.ensures c.star_is_any_version.ensures c.args.kind c.in-Ok.reference c.in-Ok.ensures (none c)

@@ -2,7 +2,7 @@ use Rattle.std.proofs.Common.{take, map}
 use Rattle.serde_json.specs.View.{items_of, view}
 use Rattle.deno_semver.specs.Json.{AreItemsOf, IsJsonOfRange}
 use Rattle.deno_semver.proofs.JsonReading.{AreOnly}
-use Rattle.deno_semver.proofs.json.object.of_items.Given as goal
+use Rattle.deno_semver.proofs.json.object.VersionRangeSetJsonForm.from_json.Given as goal
 
 abbrev pub invariant-loop-item : goal.invariant-loop-item
 invariant-loop-item l = AreItemsOf IsJsonOfRange (items_of (map view (take l.item-index l.items))) l.ranges × AreOnly IsJsonOfRange (map view (take l.item-index l.items)) l.ranges
