@@ -1,7 +1,7 @@
 //! Whether an answer is the expected one.
 
-ghost use Rattle.std.specs.Prelude.{◌≡◌, ◌↔◌, ◌∷◌, [], IsTrue, map};
-ghost use Rattle.conformance.specs.RowAnswer.{IsMet, first_item, rejected_item, item_text};
+ghost use Rattle.std.specs.Prelude.{◌≡◌, ◌↔◌, IsTrue, map};
+ghost use Rattle.conformance.specs.RowAnswer.{IsMet, rejected_item, item_text};
 
 use crate::answer::Item;
 
@@ -15,29 +15,15 @@ fn is_rejected_item(item: &Item) -> bool
     }
 }
 
-// Whether the first item is `rejected`.
-fn is_rejected(items: &[Item]) -> bool
-    ensures { IsTrue result ↔ (first_item (map item_text items.now) ≡ rejected_item) }
-{
-    match items {
-        [item, ..] => is_rejected_item(item),
-        [] => false,
-    }
-}
-
-// Whether `rejected` is the only item.
-fn is_rejected_alone(items: &[Item]) -> bool
-    ensures { IsTrue result ↔ (map item_text items.now ≡ rejected_item ∷ []) }
-{
-    match items {
-        [item] => is_rejected_item(item),
-        _ => false,
-    }
-}
-
 /// Whether an answer is the one that a row expects. A row that expects `rejected` alone accepts any rejection.
 pub fn is_met(expected: &[Item], answer: &[Item]) -> bool
     ensures { IsTrue result ↔ IsMet (map item_text expected.now) (map item_text answer.now) }
 {
-    expected == answer || (is_rejected_alone(expected) && is_rejected(answer))
+    if expected == answer {
+        return true;
+    }
+    match (expected, answer) {
+        ([item], [first, ..]) => is_rejected_item(item) && is_rejected_item(first),
+        _ => false,
+    }
 }

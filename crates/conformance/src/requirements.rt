@@ -6,7 +6,7 @@ use crate::kinds::Parse;
 use crate::notation;
 use deno_semver::errors::{error_place, invalid_pieces, version_error_place};
 use deno_semver::package::PackageReq;
-use deno_semver::{PreRelease, RangeSetOrTag, Version, VersionBoundKind, VersionReq};
+use deno_semver::{RangeSetOrTag, Version, VersionBoundKind, VersionReq};
 use semver_base::lexical::values::Measured;
 use semver_req::common;
 use semver_req::common::values::Flavour;
@@ -87,7 +87,9 @@ pub fn reread(arguments: &[Item], answer: &mut Answer) -> Reported {
     answer.made(again.to_string_normalized(answer.alloc))
 }
 
-/// A call on the lowest version that requirements match, or on containment; `tag` if one of them is a tag.
+/// `min-version`, `common-version`, `common-of-all`: the lowest version that the only one, both, or all match. `version-outside`:
+/// the lowest version that the first matches and the second doesn't. `is-subset`: whether the second matches each version that
+/// the first matches. `is-equivalent`: whether both match the same. The answer is `tag` if one of them is a tag.
 pub fn lowest(call: &str, arguments: &[Item], answer: &mut Answer) -> Reported {
     let [Some(grammar), Some(with), texts @ ..] = arguments else {
         return Err(Fault::OtherArguments);
@@ -98,16 +100,7 @@ pub fn lowest(call: &str, arguments: &[Item], answer: &mut Answer) -> Reported {
         let text = text.as_deref().ok_or(Fault::OtherArguments)?;
         push(&mut all, requirement(grammar.as_str(), text, answer))?;
     }
-    let reported = of_all(call, all.as_slice(), with, answer);
-    drop(all);
-    reported
-}
-
-// `min-version`, `common-version`, `common-of-all`: the lowest version that the only one, both, or all match. `version-outside`:
-// the lowest version that the first matches and the second doesn't. `is-subset`: whether the second matches each version that
-// the first matches. `is-equivalent`: whether both match the same.
-fn of_all(call: &str, all: &[VersionReq], with: PreRelease, answer: &mut Answer) -> Reported {
-    let [own, others @ ..] = all else {
+    let [own, others @ ..] = all.as_slice() else {
         return Err(Fault::OtherArguments);
     };
     if own.tag().is_some() || !VersionReq::have_no_tag(others) {

@@ -3,6 +3,7 @@
 ghost use Rattle.std.specs.Prelude.{◌≡◌, ◌↔◌, IsTrue, All};
 
 use crate::answer::{Answer, Fault, Item, OrFault};
+use crate::arguments::push;
 use crate::calls;
 use crate::met::is_met;
 use serde_json::Category;
@@ -53,25 +54,6 @@ struct Tally {
 }
 
 impl Tally {
-    // Counts a row of the call.
-    fn add(&mut self, alloc: Global, call: &str, differs: bool) -> Result<(), AllocError> {
-        let differ = u64::from(differs);
-        for count in self.counts.iter_mut() {
-            if count.call.as_str() == call {
-                count.asked = count.asked.saturating_add(1);
-                count.differ = count.differ.saturating_add(differ);
-                return Ok(());
-            }
-        }
-        let call = String::from_str(alloc, call)?;
-        let count = Count {
-            call,
-            asked: 1,
-            differ,
-        };
-        Ok(self.counts.push(count)?)
-    }
-
     // Whether no row differs.
     fn agrees(&self) -> bool
         ensures { IsTrue result
@@ -137,7 +119,19 @@ fn run(alloc: Global, text: &[u8], tally: &mut Tally) -> OrFault<Option<Vec<Item
     };
     let items = answer(alloc, call.as_str(), arguments)?;
     let differs = !is_met(expected.as_slice(), items.as_slice());
-    tally.add(alloc, call.as_str(), differs)?;
+    let differ = u64::from(differs);
+    let mut counts = tally.counts.iter_mut();
+    if let Some(count) = counts.find(|count| count.call.as_str() == call.as_str()) {
+        count.asked = count.asked.saturating_add(1);
+        count.differ = count.differ.saturating_add(differ);
+    } else {
+        let count = Count {
+            call: call.clone()?,
+            asked: 1,
+            differ,
+        };
+        push(&mut tally.counts, Ok(count))?;
+    }
     Ok(if differs { Some(items) } else { None })
 }
 
@@ -148,34 +142,27 @@ pub fn compare<W: Write>(alloc: Global, table: &[u8], out: &mut W) -> Result<boo
     let mut tally = Tally { counts, unreadable };
     for (place, text) in table.split(|byte| *byte == b'\n').enumerate() {
         let number = place.saturating_add(1);
-        let is_row = !text.starts_with(b"#") && !text.trim_ascii().is_empty();
-        if is_row {
-            compare_line(alloc, Line { number, text }, &mut tally, out)?;
+        if text.starts_with(b"#") || text.trim_ascii().is_empty() {
+            continue;
         }
+        let line = Line { number, text };
+        let why = match run(alloc, text, &mut tally) {
+            Ok(None) => continue,
+            Ok(Some(items)) => {
+                let Ok(items) = serde_json::to_string(alloc, &items) else {
+                    return Err(Problem::OutOfMemory);
+                };
+                line.print("answered ", items.as_str(), out)?;
+                continue;
+            }
+            Err(Fault::NoRow) => "no JSON array of two arrays of texts or nulls",
+            Err(Fault::NoCall) => "no call has this name",
+            Err(Fault::OtherArguments) => "the call takes other arguments",
+            Err(_) => return Err(Problem::OutOfMemory),
+        };
+        tally.unreadable = tally.unreadable.saturating_add(1);
+        line.print("can't be read: ", why, out)?;
     }
     tally.print(out)?;
     Ok(tally.agrees())
-}
-
-fn compare_line<W: Write>(
-    alloc: Global,
-    line: Line<'_>,
-    tally: &mut Tally,
-    out: &mut W,
-) -> Result<(), Problem> {
-    let why = match run(alloc, line.text, tally) {
-        Ok(None) => return Ok(()),
-        Ok(Some(items)) => {
-            let Ok(items) = serde_json::to_string(alloc, &items) else {
-                return Err(Problem::OutOfMemory);
-            };
-            return line.print("answered ", items.as_str(), out);
-        }
-        Err(Fault::NoRow) => "no JSON array of two arrays of texts or nulls",
-        Err(Fault::NoCall) => "no call has this name",
-        Err(Fault::OtherArguments) => "the call takes other arguments",
-        Err(_) => return Err(Problem::OutOfMemory),
-    };
-    tally.unreadable = tally.unreadable.saturating_add(1);
-    line.print("can't be read: ", why, out)
 }
