@@ -1,14 +1,11 @@
 //! References to packages: a name and version, and the path of a module in the package; and their URLs.
 
-ghost use Rattle.std.specs.Prelude.{◌≡◌, ◌↔◌, [], IfErr, IfOk, IsTrue, Ok, Result, Some, refl};
-ghost use Rattle.semver_base.specs.declared.failure.Rejection.{Rejection};
-ghost use Rattle.deno_semver.specs.NvReference.{IsNvReferenceAnswer, IsNvReferenceOutcome, IsNvReferenceRejection, NvReferenceReadsBack, nv_error, nv_reference_text};
+ghost use Rattle.std.specs.Prelude.{◌≡◌, ◌↔◌, [], IfOk, IsTrue, Ok, Result, Some, refl};
+ghost use Rattle.deno_semver.specs.NvReference.{nv_error, nv_reference_text};
 ghost use Rattle.deno_semver.specs.declared.package.nv_reference.PackageNvReference.{PackageNvReference};
 
-use super::cut::without_slash;
-use super::name_version::{PackageNvParseError, memory, nv_at_front, unexpected};
-use super::values::{PackageKind, PackageNv, PackageSubPath, copied_sub_path};
-use semver_base::lexical::after;
+use super::name_version::PackageNvParseError;
+use super::values::{PackageNv, PackageSubPath, copied_sub_path};
 use semver_base::string::{SmallStackString, StackString, StringAppendable};
 use std::alloc::{AllocError, Global};
 use std::fmt;
@@ -53,8 +50,8 @@ pub struct PackageNvReference {
     pub sub_path: Option<PackageSubPath>,
 }
 
-// The error with the texts of a name and version's error.
-fn of_nv_error(error: PackageNvParseError) -> PackageNvReferenceParseError
+/// The error with the texts of a name and version's error.
+pub(super) fn of_nv_error(error: PackageNvParseError) -> PackageNvReferenceParseError
     ensures { nv_error result ≡ error }
 {
     let PackageNvParseError { message, text } = error;
@@ -62,45 +59,6 @@ fn of_nv_error(error: PackageNvParseError) -> PackageNvReferenceParseError
 }
 
 impl PackageNvReference {
-    /// Parses a reference to a version of a package of this registry.
-    pub(crate) fn from_str(
-        alloc: Global,
-        text: &str,
-        kind: PackageKind,
-    ) -> Result<Self, PackageNvReferenceParseError>
-        ensures read { IfOk result (λ r. IsNvReferenceOutcome kind text.now (Ok r)) }
-        ensures reads_back { IfOk result (NvReferenceReadsBack kind) }
-        ensures rejected { IfErr result (IsNvReferenceRejection kind text.now) }
-        ensures answer { (outcome : Result PackageNvReference Rejection)
-            → IsNvReferenceOutcome kind text.now outcome
-            → IsNvReferenceAnswer text.now outcome result }
-    {
-        let Some(body) = kind.after_scheme(text) else {
-            return Err(of_nv_error(unexpected(alloc, text)));
-        };
-        let (nv, rest) = match nv_at_front(alloc, without_slash(body), text) {
-            Ok(front) => front,
-            Err(error) => return Err(of_nv_error(error)),
-        };
-        if rest.is_empty() {
-            return Ok(PackageNvReference { nv, sub_path: None });
-        }
-        let Some(path) = after(rest, '/') else {
-            drop(nv);
-            return Err(of_nv_error(unexpected(alloc, text)));
-        };
-        match PackageSubPath::from_str(alloc, path) {
-            Ok(path) => Ok(PackageNvReference {
-                nv,
-                sub_path: Some(path),
-            }),
-            Err(_) => {
-                drop(nv);
-                Err(of_nv_error(memory(alloc)))
-            }
-        }
-    }
-
     /// Copies the reference. Fails only out of memory.
     pub fn copy(&self) -> Result<Self, AllocError>
         ensures { IfOk result (λ reference. reference ≡ self.now) }

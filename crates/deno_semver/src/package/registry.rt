@@ -12,10 +12,15 @@ ghost use Rattle.deno_semver.specs.declared.package.values.PackageKind.{PackageK
 ghost use Rattle.deno_semver.specs.declared.package.nv_reference.PackageNvReference.{PackageNvReference};
 ghost use Rattle.deno_semver.specs.declared.package.reference.PackageReqReference.{PackageReqReference};
 
+use super::cut::without_slash;
 use super::errors::PackageReqReferenceParseError;
-use super::nv_reference::{PackageNvReference, PackageNvReferenceParseError, SpecifierError};
+use super::name_version::{memory, nv_at_front, unexpected};
+use super::nv_reference::{
+    PackageNvReference, PackageNvReferenceParseError, SpecifierError, of_nv_error,
+};
 use super::reference::PackageReqReference;
-use super::values::{PackageKind, PackageNv, PackageReq, sub_path_text};
+use super::values::{PackageKind, PackageNv, PackageReq, PackageSubPath, sub_path_text};
+use semver_base::lexical::after;
 use semver_base::string::StringAppendable;
 use std::alloc::{AllocError, Global};
 use std::fmt;
@@ -201,9 +206,33 @@ impl<R: Registry> RegistryNvReference<R> {
             → IsNvReferenceOutcome R.kind nv.now outcome
             → IsNvReferenceAnswer nv.now outcome result }
     {
-        match PackageNvReference::from_str(alloc, nv, R::kind()) {
-            Ok(reference) => Ok(RegistryNvReference::new(reference)),
-            Err(error) => Err(error),
+        let kind = R::kind();
+        let Some(body) = kind.after_scheme(nv) else {
+            return Err(of_nv_error(unexpected(alloc, nv)));
+        };
+        let (front, rest) = match nv_at_front(alloc, without_slash(body), nv) {
+            Ok(parts) => parts,
+            Err(error) => return Err(of_nv_error(error)),
+        };
+        if rest.is_empty() {
+            return Ok(RegistryNvReference::new(PackageNvReference {
+                nv: front,
+                sub_path: None,
+            }));
+        }
+        let Some(path) = after(rest, '/') else {
+            drop(front);
+            return Err(of_nv_error(unexpected(alloc, nv)));
+        };
+        match PackageSubPath::from_str(alloc, path) {
+            Ok(path) => Ok(RegistryNvReference::new(PackageNvReference {
+                nv: front,
+                sub_path: Some(path),
+            })),
+            Err(_) => {
+                drop(front);
+                Err(of_nv_error(memory(alloc)))
+            }
         }
     }
 
