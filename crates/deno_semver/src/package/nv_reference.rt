@@ -7,7 +7,7 @@ ghost use Rattle.deno_semver.specs.declared.package.nv_reference.PackageNvRefere
 use super::name_version::PackageNvParseError;
 use super::values::{PackageNv, PackageSubPath, copied_sub_path};
 use semver_base::string::{SmallStackString, StackString, StringAppendable};
-use std::alloc::{AllocError, Global};
+use std::alloc::AllocError;
 use std::fmt;
 use thiserror::Error;
 

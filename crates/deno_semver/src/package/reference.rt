@@ -1,7 +1,7 @@
 //! References to packages: a package requirement and the path of a module in it.
 
-ghost use Rattle.std.specs.Prelude.{◌≡◌, IfErr, IfOk, Ok, Result, Some, refl};
-ghost use Rattle.deno_semver.specs.ReferenceOutcome.{InvalidPathWithVersion, IsReferenceAnswer, IsReferenceOutcome, IsReferenceRejection, ReferenceFault, ReferenceReadsBack, unboxed};
+ghost use Rattle.std.specs.Prelude.{◌≡◌, IfOk, Ok, Result, Some, refl};
+ghost use Rattle.deno_semver.specs.ReferenceOutcome.{InvalidPathWithVersion, unboxed};
 ghost use Rattle.deno_semver.specs.ReferenceReading.{IsReferenceRead, IsReportedInvalid};
 ghost use Rattle.deno_semver.specs.ReferenceText.{reference_text, text_with_version};
 ghost use Rattle.deno_semver.specs.declared.package.reference.PackageReqReference.{PackageReqReference};
@@ -15,7 +15,6 @@ use super::read::req_of;
 use super::values::{PackageKind, PackageReq, PackageSubPath, copied_sub_path};
 use semver_base::string::{StackString, StringAppendable};
 use semver_req::common::values::Flavour;
-use semver_req::laws::{star_is_any_version, texts_have_one_outcome};
 use std::alloc::{AllocError, Global};
 use std::fmt;
 
@@ -29,8 +28,11 @@ pub struct PackageReqReference {
     pub sub_path: Option<PackageSubPath>,
 }
 
-// Parses a reference without its scheme, wherever its version stands; an empty path and `/` mean no module.
-fn read(alloc: Global, body: &str) -> Result<PackageReqReference, PackageReqPartsParseError>
+/// Parses a reference without its scheme, wherever its version stands; an empty path and `/` mean no module.
+pub(super) fn read(
+    alloc: Global,
+    body: &str,
+) -> Result<PackageReqReference, PackageReqPartsParseError>
     ensures { IsReferenceRead body.now result }
 {
     let cut = match parts_of(body) {
@@ -59,8 +61,8 @@ fn read(alloc: Global, body: &str) -> Result<PackageReqReference, PackageReqPart
     }
 }
 
-// The error with the whole text, or out of memory.
-fn invalid(
+/// The error with the whole text, or out of memory.
+pub(super) fn invalid(
     alloc: Global,
     text: &str,
     source: PackageReqPartsParseError,
@@ -82,8 +84,8 @@ fn invalid(
     }
 }
 
-// The error for a version in the path.
-fn reported(
+/// The error for a version in the path.
+pub(super) fn reported(
     alloc: Global,
     kind: PackageKind,
     reference: &PackageReqReference,
@@ -108,42 +110,6 @@ fn reported(
 }
 
 impl PackageReqReference {
-    /// Parses a reference to a package of this registry.
-    pub(crate) fn from_str(
-        alloc: Global,
-        text: &str,
-        kind: PackageKind,
-    ) -> Result<Self, PackageReqReferenceParseError>
-        ensures read { IfOk result (λ r. IsReferenceOutcome kind text.now (Ok r)) }
-        ensures reads_back { IfOk result (ReferenceReadsBack kind) }
-        ensures rejected { IfErr result (IsReferenceRejection kind text.now) }
-        ensures answer { (outcome : Result PackageReqReference ReferenceFault)
-            → IsReferenceOutcome kind text.now outcome
-            → IsReferenceAnswer kind text.now outcome result }
-    {
-        texts_have_one_outcome();
-        star_is_any_version();
-        let Some(body) = kind.after_scheme(text) else {
-            return Err(PackageReqReferenceParseError::NotExpectedScheme(kind));
-        };
-        let reference = match read(alloc, body) {
-            Ok(reference) => reference,
-            Err(source) => return Err(invalid(alloc, text, source)),
-        };
-        if reference.req.version_req.version_text() == "*"
-            && let Some(path) = &reference.sub_path
-            && let Some((before, version)) = path.as_str().rsplit_once('@')
-        {
-            let error = match reported(alloc, kind, &reference, before, version) {
-                Ok(error) => error,
-                Err(_) => PackageReqReferenceParseError::Memory,
-            };
-            drop(reference);
-            return Err(error);
-        }
-        Ok(reference)
-    }
-
     /// Copies the reference. Fails only out of memory.
     pub fn copy(&self) -> Result<Self, AllocError>
         ensures { IfOk result (λ reference. reference ≡ self.now) }

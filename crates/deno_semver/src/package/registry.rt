@@ -18,10 +18,11 @@ use super::name_version::{memory, nv_at_front, unexpected};
 use super::nv_reference::{
     PackageNvReference, PackageNvReferenceParseError, SpecifierError, of_nv_error,
 };
-use super::reference::PackageReqReference;
+use super::reference::{PackageReqReference, invalid, read, reported};
 use super::values::{PackageKind, PackageNv, PackageReq, PackageSubPath, sub_path_text};
 use semver_base::lexical::after;
 use semver_base::string::StringAppendable;
+use semver_req::laws::{star_is_any_version, texts_have_one_outcome};
 use std::alloc::{AllocError, Global};
 use std::fmt;
 use std::marker::{Model, PhantomData};
@@ -88,10 +89,28 @@ impl<R: Registry> RegistryReqReference<R> {
             → IsReferenceOutcome R.kind specifier.now outcome
             → IsReferenceAnswer R.kind specifier.now outcome result }
     {
-        match PackageReqReference::from_str(alloc, specifier, R::kind()) {
-            Ok(reference) => Ok(RegistryReqReference::new(reference)),
-            Err(error) => Err(error),
+        texts_have_one_outcome();
+        star_is_any_version();
+        let kind = R::kind();
+        let Some(body) = kind.after_scheme(specifier) else {
+            return Err(PackageReqReferenceParseError::NotExpectedScheme(kind));
+        };
+        let reference = match read(alloc, body) {
+            Ok(reference) => reference,
+            Err(source) => return Err(invalid(alloc, specifier, source)),
+        };
+        if reference.req.version_req.version_text() == "*"
+            && let Some(path) = &reference.sub_path
+            && let Some((before, version)) = path.as_str().rsplit_once('@')
+        {
+            let error = match reported(alloc, kind, &reference, before, version) {
+                Ok(error) => error,
+                Err(_) => PackageReqReferenceParseError::Memory,
+            };
+            drop(reference);
+            return Err(error);
         }
+        Ok(RegistryReqReference::new(reference))
     }
 
     /// Parses the text of a URL as a reference ([`RegistryReqReference::from_str`]).
