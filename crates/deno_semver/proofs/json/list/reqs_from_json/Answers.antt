@@ -1,9 +1,8 @@
-use Rattle.std.proofs.Common.{rules, ◌≡◌, [], ◌∷◌, ◌++◌, List, Some, map, take_all}
+use Rattle.std.proofs.Common.{rules, ◌≡◌, [], ◌∷◌, ◌++◌, Some, map, take_all}
 use Rattle.serde_json.specs.Find.{as_array}
 use Rattle.serde_json.specs.View.{items_of, view}
 use Rattle.deno_semver.specs.Json.{IsStringOf, IsTextOfReq}
 use Rattle.deno_semver.specs.StoredList.{AreEqualLists, IsJsonOfReqs, IsSortedFrom}
-use Rattle.deno_semver.specs.declared.package.values.PackageReq.{PackageReq}
 use Rattle.deno_semver.proofs.JsonReading.{array_items, exit_rejected, item_read, next_read}
 use Rattle.deno_semver.proofs.StoredLists.{exit_memory, sorted_equal}
 use Rattle.deno_semver.proofs.json.list.reqs_from_json.Goals as goal
@@ -37,17 +36,11 @@ returns-in_err-req-clause-again c reqs sorted h =
     let this = item_read (IsStringOf IsTextOfReq) view c.as_slice-items.result.now c.loop-item.item-index c.item-item.result c.loop-item-test.true c.item-item.is json h.parses_to.items h.again items h.parses_to.is_array h.parses_to.are_read in
     exit_memory (λ read. AreEqualLists read.items reqs) c.from_residual.result _ c.from_residual.ensures.1 (c.in_err-req.ensures.answer this.0 this.1)
 
-sorted : (c : goal.In_ok-sort) (reqs : List PackageReq) → IsJsonOfReqs (view c.args.value.now) reqs → IsSortedFrom reqs c.sort.new.self.items
-sorted c reqs h =
-    let values = c.as_slice-items.result.now in
-    let items : Some (items_of (map view values)) ≡ as_array (view c.args.value.now) = search rules in
-    let read = array_items (IsStringOf IsTextOfReq) view values (view c.args.value.now) h.items reqs items h.is_array h.are_read in
-    let same : reqs ≡ c.loop-item.reqs.items = c.loop-item.invariant.1 reqs (rw (take_all c.loop-item.item-index values c.loop-item-test.false) read) in
-    record { same = rw same c.in_ok-sort.ensures.permutation; ascending = search rules }
-
-pub returns-clause-answer : goal.returns-clause-answer
-returns-clause-answer c reqs h = sorted c reqs h
-
 pub returns-clause-again : goal.returns-clause-again
 returns-clause-again c reqs h s =
-    sorted_equal c.ascending_arrangements_tie.ensures reqs s.again c.sort.new.self.items h s.are_equal (sorted c s.again s.parses_to)
+    let values = c.as_slice-items.result.now in
+    let items : Some (items_of (map view values)) ≡ as_array (view c.args.value.now) = search rules in
+    let read = array_items (IsStringOf IsTextOfReq) view values (view c.args.value.now) s.parses_to.items s.again items s.parses_to.is_array s.parses_to.are_read in
+    let same : s.again ≡ c.loop-item.reqs.items = c.loop-item.invariant.1 s.again (rw (take_all c.loop-item.item-index values c.loop-item-test.false) read) in
+    let sorted : IsSortedFrom s.again c.sort.new.self.items = record { same = rw same c.in_ok-sort.ensures.permutation; ascending = search rules } in
+    sorted_equal c.ascending_arrangements_tie.ensures reqs s.again c.sort.new.self.items h s.are_equal sorted
