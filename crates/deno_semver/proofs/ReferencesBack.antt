@@ -99,7 +99,7 @@ scoped_with (Some scope) name x = append_assoc scope (47 ∷ name) x
 all_back : (p : ℕ → Bool) (xs ys : List ℕ) → list_all p (xs ++ ys) ≡ true → list_all p ys ≡ true
 all_back p xs ys h = (and_parts (list_all p xs) (list_all p ys) (sym (list_all-append p xs ys) ∙ h)).1
 
--- without an `@` in the path there is no version in it
+-- without an `@` in the path there isn't a version in it
 pub no_version_in : (r : PackageReqReference) (path : List ℕ) → r.sub_path ≡ Some path → list_all (is_not 64) path ≡ true → HasNoVersionInPath r
 no_version_in r path is none before version h =
     let both : Some path ≡ Some (before ++ (64 ∷ version)) = sym is ∙ h.path in
