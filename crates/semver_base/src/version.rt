@@ -457,12 +457,16 @@ impl Ord for Version {
         let (minor, lacks) = self.minor.borrowing_sub(other.minor, lacks);
         let (major, is_below) = self.major.borrowing_sub(other.major, lacks);
         // Summed, so that the compiler emits a single test.
-        if major as u128 + minor as u128 + patch as u128 == 0 {
-            cmp_qualifiers(self, other)
+        let numbers = if major as u128 + minor as u128 + patch as u128 == 0 {
+            Ordering::Equal
         } else if is_below {
             Ordering::Less
         } else {
             Ordering::Greater
+        };
+        if numbers != Ordering::Equal {
+            return numbers;
         }
+        cmp_qualifiers(self, other)
     }
 }
