@@ -90,23 +90,6 @@ impl Line<'_> {
     }
 }
 
-// What the call answers.
-fn answer(alloc: Global, call: &str, arguments: &[Item]) -> OrFault<Vec<Item>> {
-    let mut answer = Answer::new(alloc);
-    match calls::ask(call, arguments, &mut answer) {
-        Ok(()) | Err(Fault::Rejected) => Ok(answer.items),
-        Err(Fault::OutOfMemory) => {
-            answer.items.clear();
-            answer.text("out of memory")?;
-            Ok(answer.items)
-        }
-        Err(fault) => {
-            drop(answer);
-            Err(fault)
-        }
-    }
-}
-
 // Runs the row in this text, and counts it. Returns the call's answer if it isn't that of the table.
 fn run(alloc: Global, text: &[u8], tally: &mut Tally) -> OrFault<Option<Vec<Item>>> {
     let (question, expected): (Vec<Item>, Vec<Item>) = match serde_json::from_slice(alloc, text) {
@@ -117,7 +100,16 @@ fn run(alloc: Global, text: &[u8], tally: &mut Tally) -> OrFault<Option<Vec<Item
     let [Some(call), arguments @ ..] = question.as_slice() else {
         return Err(Fault::NoCall);
     };
-    let items = answer(alloc, call.as_str(), arguments)?;
+    let mut answer = Answer::new(alloc);
+    match calls::ask(call.as_str(), arguments, &mut answer) {
+        Ok(()) | Err(Fault::Rejected) => (),
+        Err(Fault::OutOfMemory) => {
+            answer.items.clear();
+            answer.text("out of memory")?;
+        }
+        Err(fault) => return Err(fault),
+    }
+    let items = answer.items;
     let differs = !is_met(expected.as_slice(), items.as_slice());
     let differ = u64::from(differs);
     let mut counts = tally.counts.iter_mut();

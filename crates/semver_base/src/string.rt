@@ -209,21 +209,6 @@ impl<const LIMIT: usize> ShortText<LIMIT> {
         self.push_str(character.encode_utf8(&mut bytes))
     }
 
-    // Returns the text with `to` before each character of `text` and at the end.
-    fn parted(alloc: Global, text: &str, to: &str) -> Result<Self, AllocError>
-        ensures value { IfOk result (IsReplaced [] to.now text.now) }
-        ensures succeeds { (parted : List ℕ) → IsReplaced [] to.now text.now parted
-            → length parted ≤ LIMIT → IsOk result }
-    {
-        let mut parted = ShortText::new(alloc);
-        for character in text.chars() {
-            parted.push_str(to)?;
-            parted.push(character)?;
-        }
-        parted.push_str(to)?;
-        Ok(parted)
-    }
-
     /// Returns the text with each leftmost, non-overlapping occurrence of `from` replaced by `to`. An empty `from` inserts
     /// `to` before each character and at the end, as `str::replace` does.
     ///
@@ -233,11 +218,16 @@ impl<const LIMIT: usize> ShortText<LIMIT> {
         ensures succeeds { (replaced : List ℕ) → IsReplaced from.now to.now self.now replaced
             → length replaced ≤ LIMIT → IsOk result }
     {
-        if from.is_empty() {
-            return ShortText::parted(alloc, self.as_str(), to);
-        }
         let mut replaced = ShortText::new(alloc);
         let mut rest = self.as_str();
+        if from.is_empty() {
+            for character in rest.chars() {
+                replaced.push_str(to)?;
+                replaced.push(character)?;
+            }
+            replaced.push_str(to)?;
+            return Ok(replaced);
+        }
         while let Some((before, after)) = rest.split_once(from) {
             replaced.push_str(before)?;
             replaced.push_str(to)?;

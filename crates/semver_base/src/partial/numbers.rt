@@ -2,7 +2,7 @@
 //!
 //! A range is first computed as numbers, which are cheap to move, and built where it stays.
 
-ghost use Rattle.std.specs.Prelude.{◌≡◌, ◌↔◌, ◌+◌, ◌∷◌, [], IfNone, IfOk, IfSome, IsTrue, Some, false, true};
+ghost use Rattle.std.specs.Prelude.{◌≡◌, ◌+◌, ◌∷◌, [], IfNone, IfOk, IfSome, Some, false, true};
 ghost use Rattle.std.specs.declared.cmp.Ordering.TheVariants.{Less};
 ghost use Rattle.semver_base.specs.Meaning.{from, release};
 ghost use Rattle.semver_base.specs.PartialTable.{IsLineRange, all_fit, between, caret, equal, greater_than, less_than, lower_to_below, lowest, of_short, qualified_range, qualified_start, release_bound, release_of, release_range, tilde, upper};
@@ -27,22 +27,6 @@ pub struct ReleaseBound {
 pub struct ReleaseRange {
     pub start: ReleaseBound,
     pub end: Option<ReleaseBound>,
-}
-
-impl Numbers {
-    // Whether the release of these numbers is below that of others.
-    #[inline(always)]
-    fn is_below(self, other: Numbers) -> bool
-        ensures { IsTrue result ↔ (precedence_cmp (release_of self) (release_of other) ≡ Less) }
-    {
-        if self.major != other.major {
-            return self.major < other.major;
-        }
-        if self.minor != other.minor {
-            return self.minor < other.minor;
-        }
-        self.patch < other.patch
-    }
 }
 
 impl ReleaseBound {
@@ -103,7 +87,15 @@ impl ReleaseRange {
         ensures crossed { IfNone result
             (precedence_cmp (release_of start.numbers) (release_of end.numbers) ≡ Less → ⊥) }
     {
-        if !start.numbers.is_below(end.numbers) {
+        let (first, last) = (start.numbers, end.numbers);
+        let is_below = if first.major != last.major {
+            first.major < last.major
+        } else if first.minor != last.minor {
+            first.minor < last.minor
+        } else {
+            first.patch < last.patch
+        };
+        if !is_below {
             return None;
         }
         Some(ReleaseRange {
