@@ -1,6 +1,6 @@
 //! Version ranges: which versions their bounds include, which they match, and how they are formatted (`display`).
 
-ghost use Rattle.std.specs.Prelude.{◌≡◌, ◌∷◌, ◌⊎◌, [], IfOk, IfSome};
+ghost use Rattle.std.specs.Prelude.{◌≡◌, ◌∷◌, ◌⊎◌, [], IfOk};
 ghost use Rattle.std.specs.Bool.{OnFalse, OnTrue};
 ghost use Rattle.std.specs.List.{list_any};
 ghost use Rattle.semver_base.specs.Clamp.{clamped, clamped_end, clamped_start, stopped_at, AdmitsBoth, HaveCrossed, HoldsBoth, HoldsNothing, MatchesBoth, MeansBoth};
@@ -324,30 +324,6 @@ impl VersionRange {
         }
     }
 
-    // Whether the version matches, if its three numbers and those of both bounds decide it.
-    #[inline(always)]
-    fn satisfies_by_numbers(&self, version: &Version, pre_release: PreRelease) -> Option<bool>
-        ensures { IfSome result (λ is_match.
-            is_match ≡ alternative_means_with pre_release (self.now ∷ []) version.now) }
-    {
-        let is_above = match &self.start {
-            RangeBound::Unbounded => true,
-            RangeBound::Version(start) => version.is_above_by_numbers(&start.version)?,
-        };
-        let is_below = match &self.end {
-            RangeBound::Unbounded => true,
-            RangeBound::Version(end) => !version.is_above_by_numbers(&end.version)?,
-        };
-        if !(is_above & is_below) {
-            return Some(false);
-        }
-        if pre_release.is_unrestricted(version) {
-            Some(true)
-        } else {
-            None
-        }
-    }
-
     /// Whether the version matches: it lies between both bounds and, unless pre-releases are admitted, it is a release or one
     /// of the two bounds is a pre-release of its three numbers (node-semver's rule about pre-releases).
     #[inline(always)]
@@ -515,9 +491,21 @@ impl VersionRangeSet {
     {
         // Usually there is one range and the numbers decide; then nothing is called.
         if let Some(range) = self.0.only()
-            && let Some(is_match) = range.satisfies_by_numbers(version, pre_release)
+            && let Some(is_above) = match &range.start {
+                RangeBound::Unbounded => Some(true),
+                RangeBound::Version(start) => version.is_above_by_numbers(&start.version),
+            }
+            && let Some(is_past) = match &range.end {
+                RangeBound::Unbounded => Some(false),
+                RangeBound::Version(end) => version.is_above_by_numbers(&end.version),
+            }
         {
-            return is_match;
+            if !is_above | is_past {
+                return false;
+            }
+            if pre_release.is_unrestricted(version) {
+                return true;
+            }
         }
         self.has_match(version, pre_release)
     }

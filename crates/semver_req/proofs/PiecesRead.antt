@@ -3,6 +3,7 @@ use Rattle.std.proofs.Common.{◌≡◌, ◌≤◌, ◌<◌, ◌==◌, ℕ, Bool
 use Rattle.std.proofs.lemmas.Bool.Decides.{nat_tests}
 use Rattle.std.proofs.lemmas.List.{map-append, nil_from_length}
 use Rattle.std.specs.List.{list_all}
+use Rattle.std.specs.Option.{unwrap_or}
 use Rattle.std.specs.Char.{is_not_whitespace}
 use Rattle.std.proofs.lemmas.Str.{NoCharPasses-nil}
 use Rattle.std.specs.Str.{trim}
@@ -189,7 +190,7 @@ module _ (f : Flavour) (b : Bool) (piece : List ℕ) where
   filled_read h = subst (IsPieceRead f b piece) (sym h.2) (retained_read h.0 (filled_piece f piece h.0 h.1))
 
   -- no comparators, nor empty, nor whitespace followed by `||`
-  pub outside_read : IsWholeRead (IsFilled f) piece None → (IsEverything b piece → ⊥) → IsPieceRead f b piece (read.Invalid UnexpectedCharacter)
+  outside_read : IsWholeRead (IsFilled f) piece None → (IsEverything b piece → ⊥) → IsPieceRead f b piece (read.Invalid UnexpectedCharacter)
   outside_read no_list other = (λ ds k. no_good ds k, outside no_piece)
     where
       no_piece : (cs : List Comparator) → IsPiece f piece cs → ⊥
@@ -199,6 +200,11 @@ module _ (f : Flavour) (b : Bool) (piece : List ℕ) where
       no_good : (ds : List Comparator) → IsGood f b piece ds → ⊥
       no_good ds (inl k) = no_piece ds k.0
       no_good ds (inr k) = other (inr (k.0, k.1))
+
+  -- one or the other
+  pub filled_or_outside : (r : Option RangeOrInvalid) → IsWholeRead (IsFilled f) piece r → (IsEverything b piece → ⊥) → IsPieceRead f b piece (unwrap_or r (read.Invalid UnexpectedCharacter))
+  filled_or_outside None h other = outside_read h other
+  filled_or_outside (Some answer) h other = filled_read h
 
 -- ---- the pieces of a text
 

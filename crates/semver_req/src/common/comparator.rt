@@ -2,10 +2,9 @@
 
 ghost use Rattle.std.specs.Prelude.{◌≡◌, IfErr, IfOk, OnOk, true};
 ghost use Rattle.semver_base.specs.Comparators.{comparator_line, comparator_range};
-ghost use Rattle.semver_base.specs.Grammar.{ReadsAs, answer_of};
+ghost use Rattle.semver_base.specs.Grammar.{answer_of};
 ghost use Rattle.semver_base.specs.PartialTable.{IsBoundRejection, all_fit};
-ghost use Rattle.semver_req.specs.Comparators.{IsComparator, IsLed};
-ghost use Rattle.semver_req.specs.Partials.{sized_partial};
+ghost use Rattle.semver_req.specs.Comparators.{IsComparator};
 ghost use Rattle.semver_req.specs.Written.{IsOperatorCut, IsNpmFront, IsNonPrimitive, ReadsComparator, comparator_of, with_operator};
 ghost use Rattle.semver_req.specs.declared.common.values.Flavour.TheVariants.{Normal, Npm};
 
@@ -109,22 +108,6 @@ pub fn normal_front(alloc: Global, text: &str) -> Result<Option<(Written, &str)>
     }
 }
 
-// Parses what npm's grammar has after a `~` or a `^`: any number of `=`, an optional `v` and a partial version, with optional
-// whitespace between them.
-fn led_partial(alloc: Global, text: &str) -> Result<Option<(Measured<Partial>, &str)>, AllocError>
-    ensures { IfOk result (λ r. ReadsAs sized_partial IsLed text.now (answer_of r)) }
-{
-    let mut rest = text;
-    while let Some(next) = after(rest, '=') {
-        rest = next;
-    }
-    let start = after_whitespace(rest);
-    match after(start, 'v') {
-        Some(rest) => partial_front(alloc, after_whitespace(rest), Flavour::Npm),
-        None => bare_partial(alloc, start, Flavour::Npm),
-    }
-}
-
 // The parsed partial version with this operator.
 #[inline(always)]
 fn with_operator<'a>(
@@ -153,7 +136,19 @@ fn npm_by_operator(
         _ => rest,
     };
     match operator {
-        Operator::Tilde | Operator::Caret => Ok(with_operator(operator, led_partial(alloc, rest)?)),
+        Operator::Tilde | Operator::Caret => {
+            // Any number of `=` and a `v` may stand before the partial version, with optional whitespace between them.
+            let mut rest = rest;
+            while let Some(next) = after(rest, '=') {
+                rest = next;
+            }
+            let start = after_whitespace(rest);
+            let led = match after(start, 'v') {
+                Some(rest) => partial_front(alloc, after_whitespace(rest), Flavour::Npm)?,
+                None => bare_partial(alloc, start, Flavour::Npm)?,
+            };
+            Ok(with_operator(operator, led))
+        }
         Operator::Primitive(_) | Operator::Absent => {
             Ok(with_operator(other, partial_front(alloc, rest, Flavour::Npm)?))
         }

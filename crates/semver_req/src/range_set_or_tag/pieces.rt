@@ -9,7 +9,7 @@ ghost use Rattle.semver_base.specs.declared.partial.Partial.{Partial};
 ghost use Rattle.semver_req.specs.Partials.{sized_partial};
 ghost use Rattle.semver_req.specs.PieceReading.{IsPieceRead, joined, retained_of};
 ghost use Rattle.semver_req.specs.PieceSteps.{IsAdded, IsFirstPiece, IsHyphenRead, IsNextPiece, IsWholeRead, both_now};
-ghost use Rattle.semver_req.specs.Pieces.{HasNoBar, IsComparators, IsCutAt, IsCutting, IsHyphen, hyphen};
+ghost use Rattle.semver_req.specs.Pieces.{HasNoBar, IsComparators, IsCutAt, IsCutting, hyphen};
 ghost use Rattle.semver_req.specs.Comparators.{IsComparator};
 ghost use Rattle.semver_req.specs.Written.{IsFront, comparator_of};
 ghost use Rattle.semver_req.specs.declared.range_set_or_tag.pieces.RangeOrInvalid.TheVariants.{Invalid};
@@ -166,20 +166,6 @@ impl RangeOrInvalid {
         }
     }
 
-    // Parses the whole piece as a hyphen range.
-    fn hyphen(alloc: Global, piece: &str) -> Result<Option<RangeOrInvalid>, ParseFailure>
-        ensures value { IfOk result (IsWholeRead IsHyphen piece.now) }
-        ensures memory { IfErr result (λ failure. failure ≡ None) }
-    {
-        let Some((hyphen, rest)) = hyphen_front(alloc, piece)? else {
-            return Ok(None);
-        };
-        if !rest.is_empty() {
-            return Ok(None);
-        }
-        Ok(Some(RangeOrInvalid::between(alloc, &hyphen)?))
-    }
-
     /// Parses a piece of npm's or the normalized grammar, which is followed by `||` or not. An empty piece, or whitespace
     /// followed by `||`, is the range without bounds; comparators with separators between them, and at most one at the end,
     /// are the intersection of their ranges; two partial versions around a `-` are npm's hyphen range; anything else is
@@ -206,15 +192,17 @@ impl RangeOrInvalid {
         let read = match flavour {
             Flavour::Npm => match RangeOrInvalid::list(alloc, piece, Flavour::Npm)? {
                 Some(read) => Some(read),
-                None => RangeOrInvalid::hyphen(alloc, piece)?,
+                None => match hyphen_front(alloc, piece)? {
+                    Some((hyphen, rest)) if rest.is_empty() => {
+                        Some(RangeOrInvalid::between(alloc, &hyphen)?)
+                    }
+                    _ => None,
+                },
             },
             Flavour::Normal => RangeOrInvalid::list(alloc, piece, Flavour::Normal)?,
             Flavour::Specifier => None,
         };
-        match read {
-            Some(read) => Ok(read),
-            None => Ok(RangeOrInvalid::Invalid(Rejection::UnexpectedCharacter)),
-        }
+        Ok(read.unwrap_or(RangeOrInvalid::Invalid(Rejection::UnexpectedCharacter)))
     }
 
     /// The range that a set keeps of the piece: `None` if it is invalid or ends below 0.0.0.

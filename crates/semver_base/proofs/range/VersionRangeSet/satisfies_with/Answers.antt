@@ -2,5 +2,5 @@ use Rattle.std.proofs.Common.{◌∙◌}
 use Rattle.semver_base.specs.Meaning.{any_alternatives}
 use Rattle.semver_base.proofs.range.VersionRangeSet.satisfies_with.Goals as goal
 
-pub returns-2 : goal.returns-2
-returns-2 c = c.has_match.ensures ∙ any_alternatives c.args.pre_release c.args.self.now.0 c.args.version.now
+pub returns : goal.returns
+returns c = c.has_match.ensures ∙ any_alternatives c.args.pre_release c.args.self.now.0 c.args.version.now
