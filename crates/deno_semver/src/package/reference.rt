@@ -2,14 +2,14 @@
 
 ghost use Rattle.std.specs.Prelude.{◌≡◌, IfOk, Ok, Result, Some, refl};
 ghost use Rattle.deno_semver.specs.ReferenceOutcome.{InvalidPathWithVersion, unboxed};
-ghost use Rattle.deno_semver.specs.ReferenceReading.{IsReferenceRead, IsReportedInvalid};
+ghost use Rattle.deno_semver.specs.ReferenceReading.{IsReferenceRead};
 ghost use Rattle.deno_semver.specs.ReferenceText.{reference_text, text_with_version};
 ghost use Rattle.deno_semver.specs.declared.package.reference.PackageReqReference.{PackageReqReference};
 
 use super::cut::parts_of;
 use super::errors::{
-    PackageReqPartsParseError, PackageReqReferenceInvalidParseError,
-    PackageReqReferenceInvalidWithVersionParseError, PackageReqReferenceParseError,
+    PackageReqPartsParseError, PackageReqReferenceInvalidWithVersionParseError,
+    PackageReqReferenceParseError,
 };
 use super::read::req_of;
 use super::values::{PackageKind, PackageReq, PackageSubPath, copied_sub_path};
@@ -58,29 +58,6 @@ pub(super) fn read(
             drop(req);
             Err(PackageReqPartsParseError::Memory)
         }
-    }
-}
-
-/// The error with the whole text, or out of memory.
-pub(super) fn invalid(
-    alloc: Global,
-    text: &str,
-    source: PackageReqPartsParseError,
-) -> PackageReqReferenceParseError
-    ensures { IsReportedInvalid text.now source result }
-{
-    if source.is_memory() {
-        drop(source);
-        return PackageReqReferenceParseError::Memory;
-    }
-    let Ok(specifier) = StackString::from_str(alloc, text) else {
-        drop(source);
-        return PackageReqReferenceParseError::Memory;
-    };
-    let error = PackageReqReferenceInvalidParseError { specifier, source };
-    match Box::new(alloc, error) {
-        Ok(error) => PackageReqReferenceParseError::Invalid(error),
-        Err(_) => PackageReqReferenceParseError::Memory,
     }
 }
 

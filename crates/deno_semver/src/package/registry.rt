@@ -13,15 +13,15 @@ ghost use Rattle.deno_semver.specs.declared.package.nv_reference.PackageNvRefere
 ghost use Rattle.deno_semver.specs.declared.package.reference.PackageReqReference.{PackageReqReference};
 
 use super::cut::without_slash;
-use super::errors::PackageReqReferenceParseError;
+use super::errors::{PackageReqReferenceInvalidParseError, PackageReqReferenceParseError};
 use super::name_version::{memory, nv_at_front, unexpected};
 use super::nv_reference::{
     PackageNvReference, PackageNvReferenceParseError, SpecifierError, of_nv_error,
 };
-use super::reference::{PackageReqReference, invalid, read, reported};
+use super::reference::{PackageReqReference, read, reported};
 use super::values::{PackageKind, PackageNv, PackageReq, PackageSubPath, sub_path_text};
 use semver_base::lexical::after;
-use semver_base::string::StringAppendable;
+use semver_base::string::{StackString, StringAppendable};
 use semver_req::laws::{star_is_any_version, texts_have_one_outcome};
 use std::alloc::{AllocError, Global};
 use std::fmt;
@@ -97,7 +97,21 @@ impl<R: Registry> RegistryReqReference<R> {
         };
         let reference = match read(alloc, body) {
             Ok(reference) => reference,
-            Err(source) => return Err(invalid(alloc, specifier, source)),
+            Err(source) => {
+                if source.is_memory() {
+                    drop(source);
+                    return Err(PackageReqReferenceParseError::Memory);
+                }
+                let Ok(specifier) = StackString::from_str(alloc, specifier) else {
+                    drop(source);
+                    return Err(PackageReqReferenceParseError::Memory);
+                };
+                let error = PackageReqReferenceInvalidParseError { specifier, source };
+                return Err(match Box::new(alloc, error) {
+                    Ok(error) => PackageReqReferenceParseError::Invalid(error),
+                    Err(_) => PackageReqReferenceParseError::Memory,
+                });
+            }
         };
         if reference.req.version_req.version_text() == "*"
             && let Some(path) = &reference.sub_path
