@@ -1,9 +1,9 @@
 //! What a grammar makes of a range's text, alternative by alternative.
 
 ghost use Rattle.std.specs.Prelude.{◌≡◌, ◌⊎◌, Err, IfErr, IfOk};
-ghost use Rattle.semver_base.specs.NormalText.{AreWritableRanges, IsWritableRange};
+ghost use Rattle.semver_base.specs.NormalText.{IsWritableRange};
 ghost use Rattle.semver_base.specs.declared.range.VersionRange.{VersionRange};
-ghost use Rattle.answers.specs.Explained.{AreExplained, AreAlternatives, IsExplained, IsExplainedPiece, IsMeaningOfRange};
+ghost use Rattle.answers.specs.Explained.{AreExplained, IsExplained, IsExplainedPiece, IsMeaningOfRange};
 ghost use Rattle.answers.specs.Asking.{IsFailureAt, OutOfMemory, fault_of};
 ghost use Rattle.answers.specs.Reading.{IsRangeAt};
 ghost use Rattle.answers.specs.declared.asking.Kind.TheVariants as kind;
@@ -125,34 +125,6 @@ fn pieces_of(
     Ok(pieces)
 }
 
-// The alternatives of a text of ranges.
-fn alternatives(
-    alloc: Global,
-    flavour: Flavour,
-    pre_release: PreRelease,
-    text: &str,
-    ranges: &[VersionRange],
-) -> Result<Vec<Piece>, AllocError>
-    requires { AreWritableRanges ranges.now }
-    ensures { IfOk result
-        (λ pieces. AreAlternatives flavour pre_release text.now ranges.now pieces.items) }
-{
-    match flavour {
-        Flavour::Npm => pieces_of(alloc, flavour, pre_release, text.trim()),
-        Flavour::Normal => pieces_of(alloc, flavour, pre_release, text),
-        // The strict grammar parses a text to one range.
-        Flavour::Specifier => {
-            let mut pieces = Vec::new(alloc);
-            for range in ranges {
-                let meaning = Meaning::of(alloc, pre_release, range.copy()?)?;
-                let text = String::from_str(alloc, text)?;
-                pieces.push(Piece { text, meaning })?;
-            }
-            Ok(pieces)
-        }
-    }
-}
-
 /// Returns what the grammar makes of a range's text: the tag; or the alternatives, each with the range that it means and the
 /// lowest version of that, or why it is left out, and the canonical form of all.
 pub fn explain(
@@ -172,8 +144,22 @@ pub fn explain(
     match range.inner() {
         RangeSetOrTag::Tag(tag) => Ok(Explanation::Tag(tag.copy()?)),
         RangeSetOrTag::RangeSet(set) => {
-            let ranges = set.0.iter().as_slice();
-            let pieces = alternatives(alloc, flavour, pre_release, text, ranges)?;
+            let pieces = match flavour {
+                Flavour::Npm => pieces_of(alloc, flavour, pre_release, text.trim())?,
+                Flavour::Normal => pieces_of(alloc, flavour, pre_release, text)?,
+                // The strict grammar parses a text to one range.
+                Flavour::Specifier => {
+                    let mut pieces = Vec::new(alloc);
+                    for range in set.0.iter().as_slice() {
+                        let meaning = Meaning::of(alloc, pre_release, range.copy()?)?;
+                        let text = String::from_str(alloc, text)?;
+                        pieces
+                            .push(Piece { text, meaning })
+                            .map_err(AllocError::from)?;
+                    }
+                    pieces
+                }
+            };
             let normal = range.to_string_normalized(alloc)?;
             Ok(Explanation::Ranges { pieces, normal })
         }

@@ -2,11 +2,11 @@
 
 ghost use Rattle.std.specs.Prelude.{◌≡◌, ◌++◌, IfErr, IfOk, OnOk, map, string_bytes};
 ghost use Rattle.std.specs.Option.{option_copied};
-ghost use Rattle.serde_json.specs.Data.{array, string};
-ghost use Rattle.serde_json.specs.View.{items_of, view};
+ghost use Rattle.serde_json.specs.Data.{string};
+ghost use Rattle.serde_json.specs.View.{view};
 ghost use Rattle.semver_req.specs.TextRejection.{IsTextRejection};
 ghost use Rattle.answers.specs.Asking.{IsFailureAt, IsOneAnswer};
-ghost use Rattle.answers.specs.ExplainedJson.{Explains, alternatives_json, error_for, errors_behind, matches_json, numbers_text, option_list, pre_release_of, pre_releases, ranges_explained};
+ghost use Rattle.answers.specs.ExplainedJson.{Explains, error_for, errors_behind, matches_json, numbers_text, option_list, pre_release_of, pre_releases, ranges_explained};
 ghost use Rattle.answers.specs.Filtering.{list_answer};
 ghost use Rattle.answers.specs.declared.asking.Kind.TheVariants as kind;
 
@@ -115,15 +115,16 @@ pub fn next_error<'e>(
     }
 }
 
-// The alternatives, those that are left out with these errors.
-fn alternatives_json(
+/// Returns the alternatives of a text as JSON, with the errors of the invalid ones, and its canonical form.
+pub fn ranges_explained(
     alloc: Global,
     pre_release: PreRelease,
     pieces: &[Piece],
     errors: &[InvalidPiece],
+    normal: &str,
 ) -> Result<Value, AllocError>
     ensures { IfOk result (λ json. view json
-        ≡ array (items_of (alternatives_json pre_release pieces.now errors.now))) }
+        ≡ ranges_explained pre_release pieces.now errors.now normal.now) }
 {
     let mut items = Vec::new(alloc);
     let mut rest = errors;
@@ -146,25 +147,8 @@ fn alternatives_json(
         items.push(alternative?)?;
         rest = behind;
     }
-    Ok(Value::Array(items))
-}
-
-/// Returns the alternatives of a text as JSON, with the errors of the invalid ones, and its canonical form.
-pub fn ranges_explained(
-    alloc: Global,
-    pre_release: PreRelease,
-    pieces: &[Piece],
-    errors: &[InvalidPiece],
-    normal: &str,
-) -> Result<Value, AllocError>
-    ensures { IfOk result (λ json. view json
-        ≡ ranges_explained pre_release pieces.now errors.now normal.now) }
-{
     Object::new(alloc)
-        .put(
-            "alternatives",
-            alternatives_json(alloc, pre_release, pieces, errors),
-        )
+        .put("alternatives", Ok(Value::Array(items)))
         .put_text("normal", Some(normal))
         .into_json()
 }

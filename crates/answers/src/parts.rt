@@ -10,14 +10,14 @@ ghost use Rattle.std.specs.Fmt.{decimal};
 ghost use Rattle.std.specs.Str.{trim};
 ghost use Rattle.answers.specs.Asking.{IsAnswer, IsFailureAt};
 ghost use Rattle.answers.specs.Filtering.{list_answer};
-ghost use Rattle.answers.specs.Parts.{RangeParts, VersionParts, bound_json, ranges_json, texts_json, version_json};
+ghost use Rattle.answers.specs.Parts.{RangeParts, VersionParts, bound_json, texts_json, version_json};
 ghost use Rattle.answers.specs.declared.asking.Kind.TheVariants as kind;
 
 use crate::asking::{Answer, Problem};
 use crate::object::{Object, json_text, text_json};
 use crate::questions::text_of_version;
 use crate::reading::{range, version};
-use semver_base::range::{RangeBound, VersionBoundKind, VersionRange};
+use semver_base::range::{RangeBound, VersionBoundKind};
 use semver_base::version::{Version, VersionPreOrBuild};
 use semver_req::common::values::Flavour;
 use semver_req::range_set_or_tag::{PackageTag, RangeSetOrTag};
@@ -88,21 +88,6 @@ pub fn bound_json(alloc: Global, bound: &RangeBound) -> Result<Value, AllocError
     }
 }
 
-// The JSON of ranges: their bounds.
-fn ranges_json(alloc: Global, ranges: &[VersionRange]) -> Result<Value, AllocError>
-    ensures { IfOk result (λ json. view json ≡ ranges_json ranges.now) }
-{
-    let mut items = Vec::new(alloc);
-    for range in ranges {
-        let bounds = Object::new(alloc)
-            .put("end", bound_json(alloc, &range.end))
-            .put("start", bound_json(alloc, &range.start))
-            .into_json();
-        items.push(bounds?)?;
-    }
-    Ok(Value::Array(items))
-}
-
 /// Parses a range, and returns its ranges in the order in which they stand, as the text of a JSON array of their bounds.
 pub fn range_parts(
     alloc: Global,
@@ -118,7 +103,15 @@ pub fn range_parts(
     match range.inner() {
         RangeSetOrTag::Tag(tag) => Ok(Answer::Tag(PackageTag::from_str(alloc, tag.as_str())?)),
         RangeSetOrTag::RangeSet(set) => {
-            let json = ranges_json(alloc, set.0.iter().as_slice());
+            let mut items = Vec::new(alloc);
+            for range in set.0.iter().as_slice() {
+                let bounds = Object::new(alloc)
+                    .put("end", bound_json(alloc, &range.end))
+                    .put("start", bound_json(alloc, &range.start))
+                    .into_json();
+                items.push(bounds?).map_err(AllocError::from)?;
+            }
+            let json = Ok(Value::Array(items));
             Ok(Answer::Value(json_text(alloc, json)?))
         }
     }

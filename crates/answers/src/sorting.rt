@@ -1,19 +1,18 @@
 //! The order of several versions.
 
-ghost use Rattle.std.specs.Prelude.{◌≡◌, IfErr, IfOk, map};
+ghost use Rattle.std.specs.Prelude.{IfErr, IfOk, map};
 ghost use Rattle.std.specs.Str.{trim};
 ghost use Rattle.semver_base.specs.VersionGrammar.{IsVersionRejection};
 ghost use Rattle.answers.specs.Asking.{IsAnswer};
 ghost use Rattle.answers.specs.Reading.{IsFailureAmong, texts_of};
 ghost use Rattle.answers.specs.declared.asking.Kind.TheVariants as kind;
-ghost use Rattle.answers.specs.Sorting.{AreOnlySortedPlaces, AreSortedPlaces, Sorts, standing, standing_cmp, standing_from, standing_lines};
+ghost use Rattle.answers.specs.Sorting.{AreOnlySortedPlaces, AreSortedPlaces, Sorts, standing, standing_from, standing_lines};
 
 use crate::asking::Problem;
 use crate::reading::versions;
 use semver_base::version::Version;
 use semver_req::laws::ascending_arrangements_tie;
 use std::alloc::{AllocError, Global};
-use std::cmp::Ordering;
 
 /// The order in which versions are sorted.
 #[derive(Clone, Copy)]
@@ -29,20 +28,7 @@ struct Placed<'a> {
     place: usize,
 }
 
-impl Order {
-    // Compares two placed versions in this order, equal ones by their places.
-    fn compare(self, one: &Placed<'_>, other: &Placed<'_>) -> Ordering
-        ensures { result ≡ standing_cmp self (standing one.now) (standing other.now) }
-    {
-        let order = match self {
-            Order::Ascending => one.version.cmp_precedence(other.version),
-            Order::Descending => other.version.cmp_precedence(one.version),
-        };
-        order.then(one.place.cmp(&other.place))
-    }
-}
-
-// Puts placed versions in order, and returns the place of each.
+// Puts placed versions in order, equal ones by their places, and returns the place of each.
 fn places_in_order(
     alloc: Global,
     mut all: Vec<Placed<'_>>,
@@ -54,7 +40,16 @@ fn places_in_order(
         (λ places. AreOnlySortedPlaces order (map standing all.entry.items) places.items) }
 {
     ascending_arrangements_tie::<(Version, usize)>();
-    all.sort_by(|one, other| order.compare(one, other))?;
+    match order {
+        Order::Ascending => all.sort_by(|one, other| {
+            let by_version = one.version.cmp_precedence(other.version);
+            by_version.then(one.place.cmp(&other.place))
+        })?,
+        Order::Descending => all.sort_by(|one, other| {
+            let by_version = other.version.cmp_precedence(one.version);
+            by_version.then(one.place.cmp(&other.place))
+        })?,
+    }
     let sorted = all.as_slice();
     let mut places = Vec::new(alloc);
     for it in sorted {

@@ -1,6 +1,10 @@
-use Rattle.std.proofs.Common.{◌≡◌, ◌∙◌, ap, rules, sym}
+use Rattle.std.proofs.Common.{◌≡◌, ◌++◌, ◌∷◌, ◌∙◌, [], ap, map, refl, rules, sym, take}
+use Rattle.std.proofs.lemmas.List.{map-append, take_all, take_more}
+use Rattle.serde_json.specs.View.{items_of, view}
+use Rattle.serde_json.specs.Data.{array}
+use Rattle.serde_json.proofs.Views.{view-Array}
 use Rattle.serde_json.specs.Written.{compact_text}
-use Rattle.answers.specs.Parts.{ranges_answer, ranges_json}
+use Rattle.answers.specs.Parts.{range_json, ranges_answer, ranges_json}
 use Rattle.answers.specs.declared.asking.Answer.TheVariants.{Value}
 use Rattle.answers.proofs.JsonTexts.{ranges_no_float}
 use Rattle.std.proofs.lemmas.Result.{err_from_is_err_and}
@@ -15,9 +19,22 @@ returns-in_err-range-clause-answer c =
 pub returns-in-Tag-clause-answer : goal.returns-in-Tag-clause-answer
 returns-in-Tag-clause-answer c = by_value _ _ _ _ c.in_ok-range.ensures.answer _ (answered _ _ _ (search rules))
 
+pub loop-range-preserved : goal.loop-range-preserved
+loop-range-preserved c =
+    let l = c.loop-range in
+    let range = c.range-item.result in
+    let taken = take l.range-index c.as_slice-range-items.result.now in
+    let bounds : view c.in_ok-bounds-in-RangeSet.field-0 ≡ range_json range = c.in_ok-bounds-in-RangeSet.ensures _ (c.put-in-loop-range.ensures _ _ (c.put.ensures _ _ c.new.ensures c.bound_json.ensures) c.bound_json-in-loop-range.ensures) in
+    let more = take_more c.as_slice-range-items.result.now l.range-index range c.loop-range-test.true ∙ ap (λ t. taken ++ t ∷ []) (sym c.range-item.is) in
+    let pushed : c.push.new.self.items ≡ l.items.items ++ c.in_ok-bounds-in-RangeSet.field-0 ∷ [] = search rules in
+    rw (more, map-append range_json taken (range ∷ []), pushed, map-append view l.items.items (c.in_ok-bounds-in-RangeSet.field-0 ∷ []), l.invariant, bounds) refl
+
 pub returns-clause-answer : goal.returns-clause-answer
 returns-clause-answer c =
-    let ranges = c.as_slice.result.now in
-    let text = c.in_ok-json_text-in-RangeSet.ensures (ranges_json ranges) (ranges_no_float ranges) c.ranges_json-json.ensures in
+    let l = c.loop-range in
+    let ranges = c.as_slice-range-items.result.now in
+    let all : map view l.items.items ≡ map range_json ranges = l.invariant ∙ ap (map range_json) (take_all l.range-index ranges c.loop-range-test.false) in
+    let json = view-Array l.items ∙ ap (λ items. array (items_of items)) all in
+    let text = c.in_ok-json_text-in-RangeSet.ensures (ranges_json ranges) (ranges_no_float ranges) json in
     let same : ranges_answer c.in_ok-range.range.inner ≡ Value (compact_text (ranges_json ranges)) = search rules in
     by_value _ _ _ _ c.in_ok-range.ensures.answer _ (answered _ _ _ (ap Value text ∙ sym same))
