@@ -12,7 +12,7 @@
 //! memory `out of memory` (5). The status is 6 if standard output can't be written. `npmver --help` prints the commands (0).
 #![tactic(auto)]
 
-ghost use Rattle.std.specs.Prelude.{◌≡◌, ◌⊎◌, ◌∷◌, IfOk, MatchOption, codes, map, string_bytes};
+ghost use Rattle.std.specs.Prelude.{◌≡◌, ◌∷◌, MatchOption, codes, map, string_bytes};
 ghost use Rattle.answers.specs.declared.asking.Kind.TheVariants as kind;
 ghost use Rattle.answers.specs.declared.asking.Problem.TheVariants as unanswered;
 ghost use Rattle.npmver.specs.Question.{IsPrinted, IsAsked, IsParser, IsStatus, NoParser, matching_command};
@@ -128,8 +128,22 @@ fn ask(alloc: Global, arguments: &[String]) -> Result<Line, Problem>
         "fits" => fits(alloc, arguments, PreRelease::Restricted),
         "fits-pre" => fits(alloc, arguments, PreRelease::Admitted),
         "best" => best(alloc, arguments),
-        "normal" => normal(alloc, arguments),
-        "meet" => meet(alloc, arguments),
+        "normal" => {
+            let [parser, requirement] = arguments else {
+                return Err(Problem::Usage);
+            };
+            let Some(flavour) = flavour_of(parser.as_str()) else {
+                return Err(Problem::Usage);
+            };
+            Ok(Line::Text(canonical(alloc, flavour, requirement.as_str())?))
+        }
+        "meet" => {
+            let [one, other] = arguments else {
+                return Err(Problem::Usage);
+            };
+            let overlap = overlaps(alloc, Flavour::Npm, one.as_str(), other.as_str())?;
+            Ok(Line::whether(overlap))
+        }
         _ => Err(Problem::Usage),
     }
 }
@@ -171,18 +185,6 @@ fn fits(alloc: Global, arguments: &[String], pre_release: PreRelease) -> Result<
     Ok(line)
 }
 
-// The texts as slices.
-fn slices(alloc: Global, texts: &[String]) -> Result<Vec<&str>, AllocError>
-    ensures { IfOk result
-        (λ slices. map (λ text. text.now) slices.items ≡ map string_bytes texts.now) }
-{
-    let mut slices = Vec::new(alloc);
-    for text in texts {
-        slices.push(text.as_str())?;
-    }
-    Ok(slices)
-}
-
 // The highest of the versions that matches the requirement, by the grammar with this name.
 fn best(alloc: Global, arguments: &[String]) -> Result<Line, Problem>
     ensures { IsPrinted (IsAsked (codes "best" ∷ map string_bytes arguments.now)) result }
@@ -196,7 +198,7 @@ fn best(alloc: Global, arguments: &[String]) -> Result<Line, Problem>
     let Some(flavour) = flavour_of(parser.as_str()) else {
         return Err(Problem::Usage);
     };
-    let versions = slices(alloc, versions)?;
+    let versions: Vec<&str> = versions.iter().map(|text| text.as_str()).collect(alloc)?;
     let answer = best_match(
         alloc,
         End::Highest,
@@ -211,30 +213,6 @@ fn best(alloc: Global, arguments: &[String]) -> Result<Line, Problem>
         Answer::Tag(tag) => Line::Tag(tag),
     };
     Ok(line)
-}
-
-// The canonical form of the requirement, by the grammar with this name.
-fn normal(alloc: Global, arguments: &[String]) -> Result<Line, Problem>
-    ensures { IsPrinted (IsAsked (codes "normal" ∷ map string_bytes arguments.now)) result }
-{
-    let [parser, requirement] = arguments else {
-        return Err(Problem::Usage);
-    };
-    let Some(flavour) = flavour_of(parser.as_str()) else {
-        return Err(Problem::Usage);
-    };
-    Ok(Line::Text(canonical(alloc, flavour, requirement.as_str())?))
-}
-
-// Whether the two requirements overlap, both by npm's grammar.
-fn meet(alloc: Global, arguments: &[String]) -> Result<Line, Problem>
-    ensures { IsPrinted (IsAsked (codes "meet" ∷ map string_bytes arguments.now)) result }
-{
-    let [one, other] = arguments else {
-        return Err(Problem::Usage);
-    };
-    let overlap = overlaps(alloc, Flavour::Npm, one.as_str(), other.as_str())?;
-    Ok(Line::whether(overlap))
 }
 
 // Reports a problem, and returns its status, which a failure to write doesn't change.
@@ -252,31 +230,18 @@ fn report<E: Write>(err: &mut E, problem: &Problem) -> u8
     status
 }
 
-// Prints the commands, and returns the status.
-fn help<O: Write>(out: &mut O) -> u8
-    ensures { (result ≡ 6) ⊎ (result ≡ 0) }
-{
-    match writeln!(out, "{HELP}") {
-        Ok(()) => 0,
-        Err(_) => 6,
-    }
-}
-
-// The arguments after the program's name.
-fn arguments_after_name<R: Env + AllocGlobal>(rt: &R) -> io::Result<Vec<String>> {
-    let mut arguments = Vec::new(rt.alloc());
-    for argument in env::args(rt)?.skip(1) {
-        arguments.push(argument)?;
-    }
-    Ok(arguments)
-}
-
 fn main(rt: HostRuntime) -> ExitCode {
     let mut out = io::writer(&rt);
     let mut err = rt.stderr();
-    let status = match arguments_after_name(&rt) {
+    let arguments: io::Result<Vec<String>> = env::args(&rt).and_then(|arguments| Ok(
+        arguments.skip(1).collect(rt.alloc())?,
+    ));
+    let status = match arguments {
         Ok(arguments) => match arguments.as_slice() {
-            [option] if option.as_str() == "--help" => help(&mut out),
+            [option] if option.as_str() == "--help" => match writeln!(out, "{HELP}") {
+                Ok(()) => 0,
+                Err(_) => 6,
+            },
             arguments => run(rt.alloc(), arguments, &mut out, &mut err),
         },
         Err(e) if e.kind() == ErrorKind::OutOfMemory => {

@@ -1,4 +1,6 @@
 use Rattle.std.proofs.Common.{◌≡◌, ◌-◌, Err, Ok, Result, arith, drop, length, map, refl, rules, string_bytes, take}
+use Rattle.std.proofs.lemmas.Iterator.{YieldsList-from_map_by, YieldsList-from_slice}
+use Rattle.std.proofs.lemmas.Iterator.Consumers.{YieldsList-at, map_from_collect}
 use Rattle.std.proofs.lemmas.List.{length-map}
 use Rattle.std.proofs.lemmas.Bool.Decides.{nat_tests}
 use Rattle.std.proofs.lemmas.Result.{err_from_is_err_and}
@@ -58,7 +60,9 @@ returns-in_err-answer c =
     let why = c.in_err-answer.field-0.0 in
     let result : Result Line Problem = Err (problem.Unanswered why) in
     let p = err_from_is_err_and c.from_residual-in_err-answer.result c.from_residual-in_err-answer.ensures.1 in
-    let outcome = rw (c.as_str-2.ensures.value, c.as_slice.ensures.value, c.in_ok-versions.ensures) at c.in_err-answer.ensures.answer in
+    let all : map (λ text. text.now) c.in_ok-versions.versions.items ≡ map string_bytes rest =
+    rw c.in_ok-versions.was at (map_from_collect c.collect.result c.collect.ensures.ran (YieldsList-from_map_by _ (λ text. text.now) string_bytes (YieldsList-at c.map.ensures.source (YieldsList-from_slice rest cc)) c.map.ensures.closure (λ x r q k. search rules))) in
+    let outcome = rw (c.as_str-2.ensures.value, c.as_slice.ensures.value, all) at c.in_err-answer.ensures.answer in
     rw (p.1, p.2, two_first string_bytes c.args.arguments.now _ _ c.in-len2-up.len_at_least c.parser-item.is c.requirement-item.is)
     (best_asked parser requirement (map string_bytes rest) (grind (arith, nat_tests)) result (by_parser parser (λ f. Prints reported_best (BestMatch Highest Restricted f requirement (map string_bytes rest))) c.in-Some.flavour known result
     (printed reported_best _ best_proper (Err (fault_of why)) outcome result refl)))
@@ -85,7 +89,9 @@ returns c =
     let known = rw c.as_str.ensures.value at c.in-Some.ensures in
     let is : reported_answer c.match-answer.line ≡ reported_best c.in_ok-answer.answer = search rules in
     let result : Result Line Problem = Ok c.match-answer.line in
-    let outcome = rw (c.as_str-2.ensures.value, c.as_slice.ensures.value, c.in_ok-versions.ensures) at c.in_ok-answer.ensures.answer in
+    let all : map (λ text. text.now) c.in_ok-versions.versions.items ≡ map string_bytes rest =
+    rw c.in_ok-versions.was at (map_from_collect c.collect.result c.collect.ensures.ran (YieldsList-from_map_by _ (λ text. text.now) string_bytes (YieldsList-at c.map.ensures.source (YieldsList-from_slice rest cc)) c.map.ensures.closure (λ x r q k. search rules))) in
+    let outcome = rw (c.as_str-2.ensures.value, c.as_slice.ensures.value, all) at c.in_ok-answer.ensures.answer in
     rw (two_first string_bytes c.args.arguments.now _ _ c.in-len2-up.len_at_least c.parser-item.is c.requirement-item.is)
     (best_asked parser requirement (map string_bytes rest) (grind (arith, nat_tests)) result (by_parser parser (λ f. Prints reported_best (BestMatch Highest Restricted f requirement (map string_bytes rest))) c.in-Some.flavour known result
     (printed reported_best _ best_proper (Ok c.in_ok-answer.answer) outcome result is)))
