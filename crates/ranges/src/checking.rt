@@ -13,9 +13,9 @@ use package_answers::references::read_reference;
 use semver_req::common::values::Flavour;
 use serde_json::Value;
 use std::alloc::{AllocError, Global};
+use std::fs;
 use std::io::{BufRead, ErrorKind, Read, Write};
 use std::rt::Files;
-use std::{fs, io};
 use terminal::console::{Console, END, ERROR, Status, Stop, WARNING, print_line};
 use terminal::hints::{is_protocol, question};
 use terminal::manifest::{Entry, Kind, entries};
@@ -149,7 +149,7 @@ impl Report<'_> {
         json.into_json()
     }
 
-    // Counts and prints a finding.
+    // Counts a finding, and prints it: as JSON, as GitHub's annotation, or as a line.
     fn add<O: Write, E: Write>(
         &mut self,
         console: &mut Console<O, E>,
@@ -164,28 +164,20 @@ impl Report<'_> {
         self.status = self.status.worse(status);
         match self.format {
             Format::Json => console.item(self.json(console.alloc, entry, finding)),
-            Format::GitHub => self.annotate(console, entry, finding),
+            Format::GitHub => {
+                let message = line(console.alloc, entry, finding.message)?;
+                let message = escaped(console.alloc, message.as_str(), false)?;
+                let file = format!(in console.alloc; "{}", Shown(self.file))?;
+                let file = escaped(console.alloc, file.as_str(), true)?;
+                let level = finding.level.name();
+                let Position { line, column, .. } = self.position;
+                print_line(
+                    &mut console.out,
+                    format_args!("::{level} file={file},line={line},col={column}::{message}"),
+                )
+            }
             Format::Lines => self.print(console, entry, finding),
         }
-    }
-
-    // Prints a finding as GitHub's annotation.
-    fn annotate<O: Write, E: Write>(
-        &self,
-        console: &mut Console<O, E>,
-        entry: &Entry,
-        finding: Finding<'_>,
-    ) -> Result<(), Stop> {
-        let message = line(console.alloc, entry, finding.message)?;
-        let message = escaped(console.alloc, message.as_str(), false)?;
-        let file = format!(in console.alloc; "{}", Shown(self.file))?;
-        let file = escaped(console.alloc, file.as_str(), true)?;
-        let level = finding.level.name();
-        let Position { line, column, .. } = self.position;
-        print_line(
-            &mut console.out,
-            format_args!("::{level} file={file},line={line},col={column}::{message}"),
-        )
     }
 
     // Prints a finding as a line, and where the text is wrong.
@@ -353,27 +345,21 @@ fn check_entries<O: Write, E: Write>(
     Ok(())
 }
 
-// The text of a file, or of standard input for `-`.
-fn read<R: Input + Files + AllocGlobal>(rt: &R, alloc: Global, path: &str) -> io::Result<String> {
-    if path != "-" {
-        return fs::read_to_string(rt, path);
-    }
-    let mut text = String::new(alloc);
-    let _ = rt.reader().read_to_string(&mut text)?;
-    Ok(text)
-}
-
-// Checks a file; what is wrong with the file itself is reported on standard error.
+// Checks a file, or standard input for `-`; what is wrong with the file itself is reported on standard error.
 fn check_file<R: Input + Files + AllocGlobal, O: Write, E: Write>(
     rt: &R,
     console: &mut Console<O, E>,
     report: &mut Report<'_>,
 ) -> Result<(), Stop> {
     let file = report.file;
-    if file == "-" {
+    let read = if file == "-" {
         console.announce("ranges");
-    }
-    let text = match read(rt, console.alloc, file) {
+        let mut text = String::new(console.alloc);
+        rt.reader().read_to_string(&mut text).map(|_| text)
+    } else {
+        fs::read_to_string(rt, file)
+    };
+    let text = match read {
         Ok(text) => text,
         Err(error) => {
             let reason = match error.kind() {

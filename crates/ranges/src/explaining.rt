@@ -6,7 +6,6 @@ use answers::explained::{Explanation, Matches, Meaning, Piece, explain};
 use answers::explained_json::{next_error, ranges_explained};
 use clap::ArgMatches;
 use deno_semver::{PreRelease, RangeBound, Version, VersionBound, VersionBoundKind, VersionRange};
-use semver_req::error_places::pieces::InvalidPiece;
 use std::fmt;
 use std::io::Write;
 use terminal::console::{BOUNDS, Console, END, ERROR, Status, Stop, Style, print_line};
@@ -139,47 +138,37 @@ fn report_pieces<O: Write, E: Write>(
     pieces: &[Piece],
     normal: &str,
 ) -> Result<Status, Stop> {
-    let options = console.options;
+    let (alloc, options) = (console.alloc, console.options);
     let (status, errors) = if has_left_out(pieces) {
-        (
-            Status::Rejected,
-            errors(console.alloc, options.flavour, text)?,
-        )
+        (Status::Rejected, errors(alloc, options.flavour, text)?)
     } else {
-        (Status::Answered, Vec::new(console.alloc))
+        (Status::Answered, Vec::new(alloc))
     };
-    let errors = errors.as_slice();
+    let mut errors = errors.as_slice();
     if options.json {
-        let json = ranges_explained(console.alloc, options.pre_release, pieces, errors, normal);
+        let json = ranges_explained(alloc, options.pre_release, pieces, errors, normal);
         console.json(json)?;
     } else {
-        print_pieces(console, text, pieces, errors)?;
+        let style = console.terminal.out;
+        for piece in pieces {
+            let pre_release = options.pre_release;
+            print_line(
+                &mut console.out,
+                Line {
+                    piece,
+                    pre_release,
+                    style,
+                },
+            )?;
+            let (error, behind) = next_error(&piece.meaning, errors);
+            if let Some(error) = error {
+                print_error(&mut console.out, style, text, error)?;
+            }
+            errors = behind;
+        }
         print_line(&mut console.out, format_args!("canonical form: {normal}"))?;
     }
     Ok(status)
-}
-
-fn print_pieces<O: Write, E: Write>(
-    console: &mut Console<O, E>,
-    text: &str,
-    pieces: &[Piece],
-    mut errors: &[InvalidPiece],
-) -> Result<(), Stop> {
-    let style = console.terminal.out;
-    for piece in pieces {
-        let line = Line {
-            piece,
-            pre_release: console.options.pre_release,
-            style,
-        };
-        print_line(&mut console.out, line)?;
-        let (error, behind) = next_error(&piece.meaning, errors);
-        if let Some(error) = error {
-            print_error(&mut console.out, style, text, error)?;
-        }
-        errors = behind;
-    }
-    Ok(())
 }
 
 /// `ranges explain RANGE..`: for each range the tag; or each alternative on a line, and the canonical form. The status is that of

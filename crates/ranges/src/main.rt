@@ -56,31 +56,7 @@ fn answer<R: Input + Files + AllocGlobal, O: Write, E: Write>(
     Ok(status)
 }
 
-fn arguments<R: Env + AllocGlobal>(rt: &R) -> io::Result<Vec<String>> {
-    Ok(env::args(rt)?.collect(rt.alloc())?)
-}
-
-// Runs the given command with a buffered console; one that is quiet prints nowhere.
-fn write_answer<R: Runtime + AllocGlobal, E: Write + Drop>(
-    rt: &R,
-    err: E,
-    terminal: Terminal,
-    matches: &ArgMatches<'_>,
-) -> Result<Status, Stop> {
-    let Some((name, matches)) = matches.subcommand() else {
-        return Ok(Status::Usage);
-    };
-    let (alloc, options) = (rt.alloc(), Options::of(matches));
-    if options.quiet {
-        let mut console = Console::new(alloc, io::sink(), err, terminal, options);
-        return answer(rt, &mut console, name, matches);
-    }
-    let out = BufWriter::new(alloc, io::writer(rt))?;
-    let mut console = Console::new(alloc, out, err, terminal, options);
-    answer(rt, &mut console, name, matches)
-}
-
-// Parses the arguments, and runs their command; or prints the help, the version, or what is wrong with them.
+// Parses the arguments, and runs their command with a buffered console, one that is quiet printing nowhere; or prints the help, the version, or what is wrong with them.
 fn run<R: Runtime + AllocGlobal, E: Write + Drop>(
     rt: &R,
     mut err: E,
@@ -89,9 +65,17 @@ fn run<R: Runtime + AllocGlobal, E: Write + Drop>(
 ) -> Result<Status, Stop> {
     match program(rt.alloc())?.try_get_matches_from(arguments) {
         Ok(matches) => {
-            let status = write_answer(rt, err, terminal, &matches);
-            drop(matches);
-            status
+            let Some((name, matches)) = matches.subcommand() else {
+                return Ok(Status::Usage);
+            };
+            let (alloc, options) = (rt.alloc(), Options::of(matches));
+            if options.quiet {
+                let mut console = Console::new(alloc, io::sink(), err, terminal, options);
+                return answer(rt, &mut console, name, matches);
+            }
+            let out = BufWriter::new(alloc, io::writer(rt))?;
+            let mut console = Console::new(alloc, out, err, terminal, options);
+            answer(rt, &mut console, name, matches)
         }
         Err(mistake) => match mistake.kind() {
             Mistake::DisplayHelp | Mistake::DisplayVersion => {
@@ -129,7 +113,10 @@ fn main(rt: HostRuntime) -> ExitCode {
         out: style(rt.stdout().is_terminal(), no_color),
         err: style(rt.stderr().is_terminal(), no_color),
     };
-    let outcome = match arguments(&rt) {
+    let arguments: io::Result<Vec<String>> = env::args(&rt).and_then(|arguments| Ok(
+        arguments.collect(rt.alloc())?,
+    ));
+    let outcome = match arguments {
         Ok(arguments) => run(&rt, rt.stderr(), terminal, arguments.as_slice()),
         Err(error) => Err(Stop::of(error, Stop::NoText)),
     };

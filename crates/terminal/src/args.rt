@@ -225,28 +225,6 @@ fn option<'a>(alloc: Global, argument: &Argument, short: Option<char>) -> Arg<'a
     }
 }
 
-fn arg<'a>(alloc: Global, argument: &Argument) -> Result<Arg<'a>, AllocError> {
-    let arg = match argument.form {
-        Form::Flag(short) => option(alloc, argument, short).action(ArgAction::SetTrue),
-        Form::FlagWithoutJson(short) => option(alloc, argument, short)
-            .action(ArgAction::SetTrue)
-            .conflicts_with("json")?,
-        Form::Grammar => option(alloc, argument, Some('g'))
-            .value_name("GRAMMAR")
-            .value_parser(GRAMMARS.as_slice())
-            .default_value("npm"),
-        Form::MoreRanges => option(alloc, argument, Some('r'))
-            .value_name("RANGE")
-            .action(ArgAction::Append),
-        Form::Text => Arg::new(alloc, argument.name).required(true),
-        Form::Texts(count) => Arg::new(alloc, argument.name)
-            .required(count > 0)
-            .num_args(count..)
-            .action(ArgAction::Append),
-    };
-    Ok(arg.help(argument.help))
-}
-
 // ---- commands
 
 /// A command: what it is for, its arguments, and examples.
@@ -408,7 +386,25 @@ fn command<'a>(alloc: Global, entry: &Entry) -> Result<Command<'a>, AllocError> 
         .after_help(entry.examples)
         .version(VERSION);
     for argument in entry.arguments {
-        command = command.arg(arg(alloc, argument)?)?;
+        let arg = match argument.form {
+            Form::Flag(short) => option(alloc, argument, short).action(ArgAction::SetTrue),
+            Form::FlagWithoutJson(short) => option(alloc, argument, short)
+                .action(ArgAction::SetTrue)
+                .conflicts_with("json")?,
+            Form::Grammar => option(alloc, argument, Some('g'))
+                .value_name("GRAMMAR")
+                .value_parser(GRAMMARS.as_slice())
+                .default_value("npm"),
+            Form::MoreRanges => option(alloc, argument, Some('r'))
+                .value_name("RANGE")
+                .action(ArgAction::Append),
+            Form::Text => Arg::new(alloc, argument.name).required(true),
+            Form::Texts(count) => Arg::new(alloc, argument.name)
+                .required(count > 0)
+                .num_args(count..)
+                .action(ArgAction::Append),
+        };
+        command = command.arg(arg.help(argument.help))?;
     }
     Ok(command)
 }

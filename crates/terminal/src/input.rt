@@ -112,12 +112,28 @@ fn take_line<O: Write, E: Write, T: Take>(
     take_one(console, taker, text, place)
 }
 
-// Takes the items of a JSON array of texts.
-fn take_items<O: Write, E: Write, T: Take>(
+// Takes the items of all that the input holds, of which `line` was read: a JSON array of texts that begins in the line with this number.
+fn take_json<I: BufRead, O: Write, E: Write, T: Take>(
     console: &mut Console<O, E>,
     taker: &mut T,
-    json: &Value,
+    input: &mut I,
+    number: u64,
+    line: &mut Vec<u8>,
 ) -> Result<Status, Stop> {
+    if let Err(error) = input.read_to_end(line) {
+        return Err(Stop::of(error, Stop::Unread));
+    }
+    let Ok(text) = str::from_utf8(without_mark(line.as_slice())) else {
+        return Ok(console.complain("standard input", "not valid UTF-8"));
+    };
+    let json = match Value::from_str(console.alloc, text) {
+        Ok(json) => json,
+        Err(error) if error.is_memory() => return Err(Stop::OutOfMemory),
+        Err(error) => {
+            let number = number.saturating_add(error.line() as u64).saturating_sub(1);
+            return Ok(console.complain(format_args!("line {number}"), "not valid JSON"));
+        }
+    };
     let Some(items) = json.as_array() else {
         return Ok(console.complain("standard input", "expected a JSON array of versions"));
     };
@@ -134,39 +150,28 @@ fn take_items<O: Write, E: Write, T: Take>(
     Ok(status)
 }
 
-// Takes all that the input holds, of which `line` was read, as JSON that begins in the line with this number.
-fn take_json<I: BufRead, O: Write, E: Write, T: Take>(
+/// Takes each of the arguments, or without any and for `-` each line of standard input, or all of that if it begins with a
+/// JSON array or object. The status is that of invalid arguments if
+/// one isn't a version.
+pub fn take_all<R: Input, O: Write, E: Write, T: Take>(
+    rt: &R,
     console: &mut Console<O, E>,
+    arguments: Option<&[&str]>,
     taker: &mut T,
-    input: &mut I,
-    number: u64,
-    line: &mut Vec<u8>,
 ) -> Result<Status, Stop> {
-    if let Err(error) = input.read_to_end(line) {
-        return Err(Stop::of(error, Stop::Unread));
-    }
-    let Ok(text) = str::from_utf8(without_mark(line.as_slice())) else {
-        return Ok(console.complain("standard input", "not valid UTF-8"));
-    };
-    match Value::from_str(console.alloc, text) {
-        Ok(json) => take_items(console, taker, &json),
-        Err(error) if error.is_memory() => Err(Stop::OutOfMemory),
-        Err(error) => {
-            let number = number.saturating_add(error.line() as u64).saturating_sub(1);
-            Ok(console.complain(format_args!("line {number}"), "not valid JSON"))
+    let arguments = arguments.unwrap_or(&[]);
+    let mut status = Status::Answered;
+    if !arguments.is_empty() && arguments != ["-"].as_slice() {
+        for text in arguments {
+            status = status.worse(take_one(console, taker, text, Place::Argument)?);
         }
+        return Ok(status);
     }
-}
-
-// Takes each line of the input, or all of it if it begins with a JSON array or object.
-fn take_input<I: BufRead, O: Write, E: Write, T: Take>(
-    console: &mut Console<O, E>,
-    taker: &mut T,
-    input: &mut I,
-) -> Result<Status, Stop> {
+    console.announce("versions");
+    let mut input = BufReader::new(console.alloc, rt.reader())?;
     let end = if console.options.null { 0 } else { b'\n' };
     let mut line = Vec::new(console.alloc);
-    let (mut status, mut is_front) = (Status::Answered, true);
+    let mut is_front = true;
     for number in 1..u64::MAX {
         line.clear();
         match input.read_until(end, &mut line) {
@@ -176,31 +181,10 @@ fn take_input<I: BufRead, O: Write, E: Write, T: Take>(
         }
         let text = without_mark(line.as_slice()).trim_ascii_start();
         if is_front && matches!(text, [b'[' | b'{', ..]) {
-            return take_json(console, taker, input, number, &mut line);
+            return take_json(console, taker, &mut input, number, &mut line);
         }
         is_front &= line.as_slice().trim_ascii().is_empty();
         status = status.worse(take_line(console, taker, number, line.as_slice())?);
-    }
-    Ok(status)
-}
-
-/// Takes each of the arguments, or what standard input holds without any and for `-`. The status is that of invalid arguments if
-/// one isn't a version.
-pub fn take_all<R: Input, O: Write, E: Write, T: Take>(
-    rt: &R,
-    console: &mut Console<O, E>,
-    arguments: Option<&[&str]>,
-    taker: &mut T,
-) -> Result<Status, Stop> {
-    let arguments = arguments.unwrap_or(&[]);
-    if arguments.is_empty() || arguments == ["-"].as_slice() {
-        console.announce("versions");
-        let mut input = BufReader::new(console.alloc, rt.reader())?;
-        return take_input(console, taker, &mut input);
-    }
-    let mut status = Status::Answered;
-    for text in arguments {
-        status = status.worse(take_one(console, taker, text, Place::Argument)?);
     }
     Ok(status)
 }
