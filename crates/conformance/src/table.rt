@@ -1,7 +1,5 @@
 //! Running the rows of a table.
 
-ghost use Rattle.std.specs.Prelude.{◌≡◌, ◌↔◌, IsTrue, All};
-
 use crate::answer::{Answer, Fault, Item, OrFault};
 use crate::arguments::push;
 use crate::calls;
@@ -51,25 +49,6 @@ struct Count {
 struct Tally {
     counts: Vec<Count>,
     unreadable: u64,
-}
-
-impl Tally {
-    // Whether no row differs.
-    fn agrees(&self) -> bool
-        ensures { IsTrue result
-            ↔ (self.now.unreadable ≡ 0) × All (λ count. count.differ ≡ 0) self.now.counts.items }
-    {
-        self.unreadable == 0 && self.counts.iter().all(|count| count.differ == 0)
-    }
-
-    fn print<W: Write>(&self, out: &mut W) -> Result<(), Problem> {
-        for count in &self.counts {
-            let (call, asked, differ) = (&count.call, count.asked, count.differ);
-            writeln!(out, "{call}: {asked} asked, {differ} differ")?;
-        }
-        writeln!(out, "lines that are no row: {}", self.unreadable)?;
-        Ok(())
-    }
 }
 
 // A row of the table, neither a heading nor only whitespace, with the number of its line from 1.
@@ -147,7 +126,7 @@ pub fn compare<W: Write>(alloc: Global, table: &[u8], out: &mut W) -> Result<boo
                 line.print("answered ", items.as_str(), out)?;
                 continue;
             }
-            Err(Fault::NoRow) => "no JSON array of two arrays of texts or nulls",
+            Err(Fault::NoRow) => "not a JSON array of two arrays of texts or nulls",
             Err(Fault::NoCall) => "no call has this name",
             Err(Fault::OtherArguments) => "the call takes other arguments",
             Err(_) => return Err(Problem::OutOfMemory),
@@ -155,6 +134,10 @@ pub fn compare<W: Write>(alloc: Global, table: &[u8], out: &mut W) -> Result<boo
         tally.unreadable = tally.unreadable.saturating_add(1);
         line.print("can't be read: ", why, out)?;
     }
-    tally.print(out)?;
-    Ok(tally.agrees())
+    for count in &tally.counts {
+        let (call, asked, differ) = (&count.call, count.asked, count.differ);
+        writeln!(out, "{call}: {asked} asked, {differ} differ")?;
+    }
+    writeln!(out, "lines that aren't rows: {}", tally.unreadable)?;
+    Ok(tally.unreadable == 0 && tally.counts.iter().all(|count| count.differ == 0))
 }
