@@ -1,11 +1,11 @@
 //! How results are returned to C: a code, with a text or a list in the caller's buffer, or a place.
 
-ghost use Rattle.std.specs.Prelude.{◌≡◌, IfOk, map, string_bytes};
+ghost use Rattle.std.specs.Prelude.{◌≡◌, string_bytes};
 ghost use Rattle.std.specs.Cow.{cow_str_bytes};
 ghost use Rattle.std.specs.Option.{option_map};
 ghost use Rattle.answers.specs.Filtering.{list_answer};
 ghost use Rattle.semver_c.specs.Arguments.{call_fault, call_outcome, problem_message, problem_place};
-ghost use Rattle.semver_c.specs.Codes.{IsPlaced, IsReported, IsUntouched, IsUntouchedWithoutValue, always_yes, as_place, best_code, best_place, bool_code, code_of, fault_code, filter_code, filter_numbers, found_code, found_text, line_code, lowest_code, lowest_text, match_code, no_text, number_of, order_code, place_after, text_code, text_of, three_numbers, unqualified_code};
+ghost use Rattle.semver_c.specs.Codes.{IsPlaced, IsReported, IsUntouched, IsUntouchedWithoutValue, always_yes, as_place, best_code, best_place, bool_code, code_of, fault_code, filter_code, filter_numbers, found_code, found_text, lowest_code, lowest_text, match_code, no_text, number_of, order_code, place_after, text_code, text_of, three_numbers, unqualified_code};
 
 use crate::arguments::Problem;
 use crate::codes::Code;
@@ -13,7 +13,7 @@ use crate::questions::Numbers;
 use answers::asking::Answer;
 use answers::questions::{Best, text_of_version};
 use deno_semver::Version;
-use std::alloc::{AllocError, Global};
+use std::alloc::Global;
 use std::borrow::CowStr;
 use std::cmp::Ordering;
 
@@ -246,22 +246,7 @@ pub fn report_lowest(
     }
 }
 
-// The number of each line: whether its version matches, or that it is invalid.
-fn line_numbers(alloc: Global, answers: &[Option<bool>]) -> Result<Vec<i8>, AllocError>
-    ensures { IfOk result
-        (λ numbers. numbers.items ≡ map (λ answer. number_of (line_code answer)) answers.now) }
-{
-    let mut numbers = Vec::new(alloc);
-    for answer in answers {
-        numbers.push(match answer {
-            Some(matches) => Code::of_bool(*matches).byte(),
-            None => Code::InvalidVersion.byte(),
-        })?;
-    }
-    Ok(numbers)
-}
-
-/// Reports which versions match; for a tag or a problem, its code alone.
+/// Reports whether the version of each line matches, or is invalid; for a tag or a problem, its code alone.
 pub fn report_filter(
     alloc: Global,
     answer: Result<Answer<Vec<Option<bool>>>, Problem>,
@@ -274,13 +259,21 @@ pub fn report_filter(
     ensures untouched { IsUntouched out.old out.new needed.new result }
 {
     let code = match answer {
-        Ok(Answer::Value(answers)) => match line_numbers(alloc, answers.as_slice()) {
-            Ok(numbers) => {
-                put_items(numbers.as_slice(), out, needed);
-                return Code::Yes.number();
+        Ok(Answer::Value(answers)) => {
+            let mut numbers = Vec::new(alloc);
+            for answer in &answers {
+                let code = match answer {
+                    Some(matches) => Code::of_bool(*matches),
+                    None => Code::InvalidVersion,
+                };
+                if numbers.push(code.byte()).is_err() {
+                    put_items(&[], out, needed);
+                    return Code::NoMemory.number();
+                }
             }
-            Err(_) => Code::NoMemory,
-        },
+            put_items(numbers.as_slice(), out, needed);
+            return Code::Yes.number();
+        }
         Ok(Answer::Tag(_tag)) => Code::Tag,
         Err(problem) => problem.code(),
     };
