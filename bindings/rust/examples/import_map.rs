@@ -58,7 +58,7 @@ fn main() -> Result<(), Box<dyn Error>> {
     for (name, specifier) in &map.imports {
         match package(specifier) {
             Ok(Some(req)) => packages.push((name, req)),
-            Ok(None) => println!("{name}: {specifier} is no package"),
+            Ok(None) => println!("{name}: {specifier} isn't a package"),
             Err(error) => println!("{name}: {error}{}", error.source().map_or(String::new(), |cause| format!(": {cause}"))),
         }
     }
