@@ -16,18 +16,6 @@ use semver_req::error_places::version_error_place;
 use serde_json::Value;
 use std::alloc::{AllocError, Global};
 
-/// The name of a kind of text in JSON.
-pub fn kind_name(kind: Kind) -> &'static str
-    ensures { result.now ≡ kind_name kind }
-{
-    match kind {
-        Kind::Digit => "digit",
-        Kind::Letter => "letter",
-        Kind::Space => "whitespace",
-        kind => kind.text(),
-    }
-}
-
 /// Returns what is expected at the place of an error, as JSON: the names of kinds of text, and `end` if the text may end there. Nothing
 /// is if the alternative is wrong in another way.
 pub fn expected_json(alloc: Global, cause: &Cause) -> Result<Value, AllocError>
@@ -39,7 +27,13 @@ pub fn expected_json(alloc: Global, cause: &Cause) -> Result<Value, AllocError>
     };
     let kinds = expected.kinds.as_slice();
     for kind in kinds {
-        names.push(text_json(alloc, kind_name(*kind))?)?;
+        let name = match kind {
+            Kind::Digit => "digit",
+            Kind::Letter => "letter",
+            Kind::Space => "whitespace",
+            kind => kind.text(),
+        };
+        names.push(text_json(alloc, name)?)?;
     }
     if expected.may_end {
         names.push(text_json(alloc, "end")?)?;

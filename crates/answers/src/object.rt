@@ -24,16 +24,6 @@ pub fn text_json(alloc: Global, text: &str) -> Result<Value, AllocError>
     Value::try_from_str(alloc, text)
 }
 
-/// The JSON of a text, or null.
-pub fn text_or_null(alloc: Global, text: Option<&str>) -> Result<Value, AllocError>
-    ensures { IfOk result (λ json. view json ≡ text_or_null (option_copied text.entry)) }
-{
-    match text {
-        Some(text) => text_json(alloc, text),
-        None => Ok(Value::Null),
-    }
-}
-
 /// Returns the text of JSON without floats.
 pub fn json_text(alloc: Global, json: Result<Value, AllocError>) -> Result<String, AllocError>
     ensures { (d : Data) → has_float d ≡ false → IfOk json (λ json. view json ≡ d)
@@ -76,7 +66,10 @@ impl Object {
         ensures { (all : Members) → Has self all
             → Has result (with_member key.now (text_or_null (option_copied text.entry)) all) }
     {
-        let value = text_or_null(self.alloc, text);
+        let value = match text {
+            Some(text) => text_json(self.alloc, text),
+            None => Ok(Value::Null),
+        };
         self.put(key, value)
     }
 

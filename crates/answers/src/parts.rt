@@ -49,27 +49,22 @@ pub fn displayed_json(alloc: Global, version: &Version) -> Result<Value, AllocEr
     Ok(Value::String(text_of_version(alloc, version)?))
 }
 
-/// Returns the parts of a version as JSON: its three numbers as texts, and the parts of its pre-release and its build.
-pub fn version_json(alloc: Global, version: &Version) -> Result<Value, AllocError>
-    ensures { IfOk result (λ json. view json ≡ version_json version.now) }
-{
-    Object::new(alloc)
-        .put("build", texts_json(alloc, version.build.iter().as_slice()))
-        .put("major", number_json(alloc, version.major))
-        .put("minor", number_json(alloc, version.minor))
-        .put("patch", number_json(alloc, version.patch))
-        .put("pre", texts_json(alloc, version.pre.iter().as_slice()))
-        .into_json()
-}
-
-/// Parses a version, and returns its parts as the text of a JSON object.
+/// Parses a version, and returns its parts as the text of a JSON object: its three numbers as texts, and the parts of its
+/// pre-release and its build.
 pub fn version_parts(alloc: Global, version_text: &str) -> Result<String, Problem>
     ensures answer { IsAnswer (VersionParts version_text.now) (λ text. string_bytes text) result }
     ensures failure { IfErr result
         (IsFailureAt kind.Version 0 (IsVersionRejection (trim version_text.now))) }
 {
     let version = version(alloc, 0, version_text)?;
-    Ok(json_text(alloc, version_json(alloc, &version))?)
+    let json = Object::new(alloc)
+        .put("build", texts_json(alloc, version.build.iter().as_slice()))
+        .put("major", number_json(alloc, version.major))
+        .put("minor", number_json(alloc, version.minor))
+        .put("patch", number_json(alloc, version.patch))
+        .put("pre", texts_json(alloc, version.pre.iter().as_slice()))
+        .into_json();
+    Ok(json_text(alloc, json)?)
 }
 
 /// Returns a bound as JSON: its version as displayed, and whether that lies within it; null, if there is no bound.

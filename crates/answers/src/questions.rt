@@ -62,22 +62,6 @@ fn first_tag(ranges: &[VersionReq]) -> Option<&str>
     }
 }
 
-/// Whether the version matches the range.
-pub fn match_of(
-    alloc: Global,
-    pre_release: PreRelease,
-    range: &VersionReq,
-    version: &Version,
-) -> Result<Answer<bool>, AllocError>
-    ensures { IfOk result
-        (λ answer. answer ≡ match_of pre_release range.now.inner version.now) }
-{
-    match range.tag() {
-        Some(tag) => Ok(Answer::Tag(PackageTag::from_str(alloc, tag)?)),
-        None => Ok(Answer::Value(range.matches_with(version, pre_release))),
-    }
-}
-
 /// Does the version match the range?
 pub fn matches(
     alloc: Global,
@@ -94,7 +78,10 @@ pub fn matches(
 {
     let range = range(alloc, flavour, 0, range_text)?;
     let version = version(alloc, 0, version_text)?;
-    Ok(match_of(alloc, pre_release, &range, &version)?)
+    match range.tag() {
+        Some(tag) => Ok(Answer::Tag(PackageTag::from_str(alloc, tag)?)),
+        None => Ok(Answer::Value(range.matches_with(&version, pre_release))),
+    }
 }
 
 /// Which of the versions is the highest or lowest that matches the range? Of those that differ only in the build, the first.

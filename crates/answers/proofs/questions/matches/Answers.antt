@@ -1,3 +1,4 @@
+use Rattle.std.proofs.Common.{rules}
 use Rattle.std.proofs.lemmas.Result.{err_from_is_err_and}
 use Rattle.answers.specs.AskingLaws.{by_value, by_fault, answered}
 use Rattle.answers.proofs.questions.matches.Goals as goal
@@ -13,4 +14,7 @@ returns-in_err-version-clause-answer c =
     rw (p.1, p.2) (by_value _ _ _ _ c.in_ok-range.ensures.answer _ (by_fault _ _ _ _ c.in_err-version.ensures.answer))
 
 pub returns-clause-answer : goal.returns-clause-answer
-returns-clause-answer c = by_value _ _ _ _ c.in_ok-range.ensures.answer _ (by_value _ _ _ _ c.in_ok-version.ensures.answer _ (answered _ _ _ c.in_ok-match_of.ensures))
+returns-clause-answer c = by_value _ _ _ _ c.in_ok-range.ensures.answer _ (by_value _ _ _ _ c.in_ok-version.ensures.answer _ (answered _ _ _ (search rules)))
+
+pub returns-in-Some-clause-answer : goal.returns-in-Some-clause-answer
+returns-in-Some-clause-answer c = by_value _ _ _ _ c.in_ok-range.ensures.answer _ (by_value _ _ _ _ c.in_ok-version.ensures.answer _ (answered _ _ _ (search rules)))
