@@ -1,9 +1,9 @@
 //! Codes: what a call returns.
 
 ghost use Rattle.std.specs.Prelude.{◌≡◌};
-ghost use Rattle.semver_c.specs.Codes.{bool_code, kind_code, number_of, order_code};
+ghost use Rattle.semver_c.specs.Codes.{bool_code, kind_code, match_code, number_of, order_code};
 
-use answers::asking::Kind;
+use answers::asking::{Answer, Kind};
 use std::cmp::Ordering;
 
 /// What a call returns: its answer, or why there is none.
@@ -54,6 +54,16 @@ impl Code {
         ensures { result ≡ bool_code answer }
     {
         if answer { Code::Yes } else { Code::No }
+    }
+
+    /// The code of a match.
+    pub fn of_match(answer: &Answer<bool>) -> Code
+        ensures { result ≡ match_code answer.now }
+    {
+        match answer {
+            Answer::Value(matches) => Code::of_bool(*matches),
+            Answer::Tag(_) => Code::Tag,
+        }
     }
 
     /// The code of an order.

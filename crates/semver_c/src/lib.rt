@@ -43,7 +43,7 @@ use questions::{
     why_invalid,
 };
 use reports::{
-    code_of_bool, code_of_match, code_of_order, code_or_problem, put, put_place, report_best,
+    code_or_problem, put, put_place, report_best,
     report_bool, report_filter, report_found_text, report_lowest, report_match, report_name,
     report_numbers, report_place, report_places, report_problem, report_text, report_text_or_tag,
 };
@@ -79,7 +79,11 @@ pub extern "C" fn semver_compare(alloc: Global, one: &[u8], other: &[u8], place:
 {
     let answer = order_of(alloc, one, other);
     put_place(&answer, place);
-    code_of_order(answer)
+    let code = match answer {
+        Ok(order) => Code::of_order(order),
+        Err(problem) => problem.code(),
+    };
+    code.number()
 }
 
 /// Whether two ranges overlap: yes or no. With an invalid range `place` is which of the two it is.
@@ -97,7 +101,11 @@ pub extern "C" fn semver_overlap(
 {
     let answer = overlap(alloc, grammar, one, other);
     put_place(&answer, place);
-    code_of_bool(answer)
+    let code = match answer {
+        Ok(overlap) => Code::of_bool(overlap),
+        Err(problem) => problem.code(),
+    };
+    code.number()
 }
 
 /// Whether the other range matches each version that the first one matches: yes; no, with the lowest that it doesn't; or that
@@ -140,7 +148,11 @@ pub extern "C" fn semver_equivalent(
 {
     let answer = equivalent_ranges(alloc, grammar, one, other, pre_releases);
     put_place(&answer, place);
-    code_of_match(answer)
+    let code = match answer {
+        Ok(answer) => Code::of_match(&answer),
+        Err(problem) => problem.code(),
+    };
+    code.number()
 }
 
 /// The lowest version that both ranges match: yes, with its text; no, if there is none; or that one of them is a tag.

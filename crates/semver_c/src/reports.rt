@@ -44,52 +44,12 @@ pub fn put_place<T>(answer: &Result<T, Problem>, place: &mut usize)
     }
 }
 
-/// The code of a result or a problem.
-pub fn code_of_order(answer: Result<Ordering, Problem>) -> i32
-    ensures { result ≡ code_of order_code (call_outcome (λ order. order) answer) }
-{
-    match answer {
-        Ok(order) => Code::of_order(order).number(),
-        Err(problem) => problem.code().number(),
-    }
-}
-
-/// The code of a result or a problem.
-pub fn code_of_bool(answer: Result<bool, Problem>) -> i32
-    ensures { result ≡ code_of bool_code (call_outcome (λ answer. answer) answer) }
-{
-    match answer {
-        Ok(answer) => Code::of_bool(answer).number(),
-        Err(problem) => problem.code().number(),
-    }
-}
-
-// The code of a match.
-fn match_code(answer: &Answer<bool>) -> Code
-    ensures { result ≡ match_code answer.now }
-{
-    match answer {
-        Answer::Value(matches) => Code::of_bool(*matches),
-        Answer::Tag(_) => Code::Tag,
-    }
-}
-
 /// The code, or that of a problem.
 pub fn code_or_problem(answer: Result<Code, Problem>) -> i32
     ensures { result ≡ code_of (λ code. code) (call_outcome (λ code. code) answer) }
 {
     match answer {
         Ok(code) => code.number(),
-        Err(problem) => problem.code().number(),
-    }
-}
-
-/// The code of a match or a problem.
-pub fn code_of_match(answer: Result<Answer<bool>, Problem>) -> i32
-    ensures { result ≡ code_of match_code (call_outcome (λ answer. answer) answer) }
-{
-    match answer {
-        Ok(answer) => match_code(&answer).number(),
         Err(problem) => problem.code().number(),
     }
 }
@@ -115,7 +75,7 @@ pub fn report_match(
     match answer {
         Ok(answer) => {
             put("", out, needed);
-            match_code(&answer).number()
+            Code::of_match(&answer).number()
         }
         Err(problem) => report_problem(&problem, out, needed),
     }

@@ -1,16 +1,19 @@
-use Rattle.std.proofs.Common.{SFits, ap, rules, w32, ◌∙◌}
+use Rattle.std.proofs.Common.{SFits, ap, rules, w32, ◌≡◌, ◌∙◌}
 use Rattle.std.proofs.lemmas.Int.{to_z-of_z}
-use Rattle.semver_c.specs.Codes.{match_code, code_of}
+use Rattle.semver_c.specs.Codes.{match_code, code_of, number_of}
+use Rattle.semver_c.specs.Arguments.{call_outcome}
 use Rattle.semver_c.proofs.Replies.{coded_reply, placed_reply, unplaced}
 use Rattle.semver_c.proofs.semver_equivalent.Goals as goal
 
 pub returns-clause-code : goal.returns-clause-code
 returns-clause-code c =
-    let fits : SFits w32 c.code_of_match.result = search rules in
-    rw (to_z-of_z w32 c.code_of_match.result fits) (coded_reply _ _ c.equivalent_ranges-answer.result c.equivalent_ranges-answer.ensures _ c.code_of_match.result c.code_of_match.ensures)
+    let is : number_of c.match-answer.code ≡ code_of match_code (call_outcome (λ x. x) c.equivalent_ranges-answer.result) = search rules in
+    let fits : SFits w32 c.number.result = search rules in
+    rw (to_z-of_z w32 c.number.result fits) (coded_reply _ _ c.equivalent_ranges-answer.result c.equivalent_ranges-answer.ensures _ c.number.result (c.number.ensures ∙ is))
 
 pub returns-clause-place : goal.returns-clause-place
 returns-clause-place c =
-    let fits : SFits w32 c.code_of_match.result = search rules in
-    rw (to_z-of_z w32 c.code_of_match.result fits) (placed_reply _ _ c.equivalent_ranges-answer.result c.equivalent_ranges-answer.ensures _ c.args.place.now c.put_place.new.place c.code_of_match.result (λ none. c.code_of_match.ensures ∙ ap (code_of match_code) none)
+    let is : number_of c.match-answer.code ≡ code_of match_code (call_outcome (λ x. x) c.equivalent_ranges-answer.result) = search rules in
+    let fits : SFits w32 c.number.result = search rules in
+    rw (to_z-of_z w32 c.number.result fits) (placed_reply _ _ c.equivalent_ranges-answer.result c.equivalent_ranges-answer.ensures _ c.args.place.now c.put_place.new.place c.number.result (λ none. c.number.ensures ∙ is ∙ ap (code_of match_code) none)
     (unplaced _ c.equivalent_ranges-answer.result c.args.place.now c.put_place.new.place c.put_place.ensures))
