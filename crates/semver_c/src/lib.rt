@@ -44,8 +44,7 @@ use questions::{
 };
 use reports::{
     code_or_problem, put, put_place, report_best,
-    report_bool, report_filter, report_found_text, report_lowest, report_match, report_name,
-    report_numbers, report_place, report_places, report_problem, report_text, report_text_or_tag,
+    report_filter, report_lowest,     report_numbers, report_places, report_problem, report_text, report_text_or_tag,
 };
 use semver_base::version::release;
 use semver_req::laws::equal_requirements;
@@ -67,8 +66,13 @@ pub extern "C" fn semver_fits(
     ensures { IsReply (Fits pre_releases grammar range.now version.now) match_code no_text
         out.old out.new needed.new result }
 {
-    let answer = fits(alloc, grammar, range, version, pre_releases);
-    report_match(answer, out, needed)
+    match fits(alloc, grammar, range, version, pre_releases) {
+        Ok(answer) => {
+            put("", out, needed);
+            Code::of_match(&answer).number()
+        }
+        Err(problem) => report_problem(&problem, out, needed),
+    }
 }
 
 /// The order of two versions, builds aside: before, same or after. With an invalid version `place` is which of the two it is.
@@ -246,7 +250,13 @@ pub extern "C" fn semver_is_tag(
     ensures { IsReply (TagBy grammar range.now) bool_code no_text
         out.old out.new needed.new result }
 {
-    report_bool(names_tag(alloc, grammar, range), out, needed)
+    match names_tag(alloc, grammar, range) {
+        Ok(is_tag) => {
+            put("", out, needed);
+            Code::of_bool(is_tag).number()
+        }
+        Err(problem) => report_problem(&problem, out, needed),
+    }
 }
 
 /// The version as displayed: yes.
@@ -389,7 +399,17 @@ pub extern "C" fn semver_why(
     ensures { IsOneReply (WhyBy what grammar text.now) found_code found_text
         out.old out.new needed.new result }
 {
-    report_found_text(why_invalid(alloc, what, grammar, text), out, needed)
+    match why_invalid(alloc, what, grammar, text) {
+        Ok(Some(why)) => {
+            put(why.as_str(), out, needed);
+            Code::Yes.number()
+        }
+        Ok(None) => {
+            put("", out, needed);
+            Code::No.number()
+        }
+        Err(problem) => report_problem(&problem, out, needed),
+    }
 }
 
 /// The parts of a reference to a JSR or npm package, as JSON: yes. The grammar of its range is the strict one.
@@ -519,7 +539,17 @@ pub extern "C" fn semver_version_error(alloc: Global, version: &[u8], place: &mu
     ensures code { IsCode (VersionErrorOf version.now) always_yes result }
     ensures place { IsPlaceReply (VersionErrorOf version.now) as_place place.old place.new result }
 {
-    report_place(version_error_of(alloc, version), place)
+    let code = match version_error_of(alloc, version) {
+        Ok(found) => {
+            *place = found;
+            Code::Yes
+        }
+        Err(problem) => {
+            *place = problem.place_or(*place);
+            problem.code()
+        }
+    };
+    code.number()
 }
 
 /// The parts of a name with a version, as JSON: yes.
@@ -576,7 +606,13 @@ pub extern "C" fn semver_export_name(
     ensures { IsReply (ExportNameOf path.now) always_yes (λ text. text)
         out.old out.new needed.new result }
 {
-    report_name(export_name_of(alloc, path), out, needed)
+    match export_name_of(alloc, path) {
+        Ok(name) => {
+            put(name.as_str(), out, needed);
+            Code::Yes.number()
+        }
+        Err(problem) => report_problem(&problem, out, needed),
+    }
 }
 
 /// Parses a range into an empty handle: yes, with its canonical form or the tag.

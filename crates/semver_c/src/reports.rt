@@ -63,38 +63,6 @@ pub fn report_problem(problem: &Problem, out: &mut [u8], needed: &mut usize) -> 
     problem.code().number()
 }
 
-/// Reports whether a version matches.
-pub fn report_match(
-    answer: Result<Answer<bool>, Problem>,
-    out: &mut [u8],
-    needed: &mut usize,
-) -> i32
-    ensures { IsReported match_code no_text (call_outcome (λ answer. answer) answer)
-        out.old out.new needed.new result }
-{
-    match answer {
-        Ok(answer) => {
-            put("", out, needed);
-            Code::of_match(&answer).number()
-        }
-        Err(problem) => report_problem(&problem, out, needed),
-    }
-}
-
-/// Reports yes or no.
-pub fn report_bool(answer: Result<bool, Problem>, out: &mut [u8], needed: &mut usize) -> i32
-    ensures { IsReported bool_code no_text (call_outcome (λ answer. answer) answer)
-        out.old out.new needed.new result }
-{
-    match answer {
-        Ok(answer) => {
-            put("", out, needed);
-            Code::of_bool(answer).number()
-        }
-        Err(problem) => report_problem(&problem, out, needed),
-    }
-}
-
 /// Reports a text.
 pub fn report_text(answer: Result<String, Problem>, out: &mut [u8], needed: &mut usize) -> i32
     ensures { IsReported always_yes (λ text. text) (call_outcome (λ text. string_bytes text) answer)
@@ -103,48 +71,6 @@ pub fn report_text(answer: Result<String, Problem>, out: &mut [u8], needed: &mut
     match answer {
         Ok(text) => {
             put(text.as_str(), out, needed);
-            Code::Yes.number()
-        }
-        Err(problem) => report_problem(&problem, out, needed),
-    }
-}
-
-/// Reports a text with yes, or that there is none with no.
-pub fn report_found_text(
-    answer: Result<Option<String>, Problem>,
-    out: &mut [u8],
-    needed: &mut usize,
-) -> i32
-    ensures { IsReported found_code found_text
-        (call_outcome (λ answer. option_map string_bytes answer) answer)
-        out.old out.new needed.new result }
-{
-    match answer {
-        Ok(Some(text)) => {
-            put(text.as_str(), out, needed);
-            Code::Yes.number()
-        }
-        Ok(None) => {
-            put("", out, needed);
-            Code::No.number()
-        }
-        Err(problem) => report_problem(&problem, out, needed),
-    }
-}
-
-/// Reports a name.
-pub fn report_name(
-    answer: Result<CowStr<'_, Global>, Problem>,
-    out: &mut [u8],
-    needed: &mut usize,
-) -> i32
-    ensures { IsReported always_yes (λ text. text)
-        (call_outcome (λ name. cow_str_bytes name) answer.entry)
-        out.old out.new needed.new result }
-{
-    match answer {
-        Ok(name) => {
-            put(name.as_str(), out, needed);
             Code::Yes.number()
         }
         Err(problem) => report_problem(&problem, out, needed),
@@ -276,24 +202,6 @@ pub fn report_numbers(answer: Result<Numbers, Problem>, out: &mut [u64], needed:
         }
         Err(problem) => {
             put_items(&[], out, needed);
-            problem.code().number()
-        }
-    }
-}
-
-/// Reports a place.
-pub fn report_place(answer: Result<usize, Problem>, place: &mut usize) -> i32
-    ensures code { result ≡ code_of always_yes (call_outcome (λ found. found) answer) }
-    ensures place { place.new
-        ≡ place_after as_place (call_outcome (λ found. found) answer) place.old }
-{
-    match answer {
-        Ok(found) => {
-            *place = found;
-            Code::Yes.number()
-        }
-        Err(problem) => {
-            *place = problem.place_or(*place);
             problem.code().number()
         }
     }
