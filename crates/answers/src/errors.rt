@@ -5,7 +5,7 @@ ghost use Rattle.serde_json.specs.View.{view};
 ghost use Rattle.serde_json.specs.Written.{compact_text};
 ghost use Rattle.semver_req.specs.InvalidPieces.{AreInvalidPieces};
 ghost use Rattle.semver_req.specs.Viable.{IsErrorPlace, IsVersionText};
-ghost use Rattle.answers.specs.Errors.{IsErrorsText, error_json, errors_json, expected_json, kind_name};
+ghost use Rattle.answers.specs.Errors.{IsErrorsText, error_json, errors_json, expected_json};
 
 use crate::object::{Object, json_text, text_json};
 use semver_req::common::values::Flavour;

@@ -10,7 +10,7 @@ ghost use Rattle.std.specs.Fmt.{decimal};
 ghost use Rattle.std.specs.Str.{trim};
 ghost use Rattle.answers.specs.Asking.{IsAnswer, IsFailureAt};
 ghost use Rattle.answers.specs.Filtering.{list_answer};
-ghost use Rattle.answers.specs.Parts.{RangeParts, VersionParts, bound_json, texts_json, version_json};
+ghost use Rattle.answers.specs.Parts.{RangeParts, VersionParts, bound_json, texts_json};
 ghost use Rattle.answers.specs.declared.asking.Kind.TheVariants as kind;
 
 use crate::asking::{Answer, Problem};

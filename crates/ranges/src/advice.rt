@@ -62,17 +62,6 @@ fn has_match(piece: &Piece) -> bool {
     }
 }
 
-/// A warning about a range that node-semver, and so npm, reads in another way.
-pub fn npm_warning(range: &str) -> Option<&'static str> {
-    if range.trim_end().ends_with("||") {
-        Some("node-semver reads what follows the last `||` as every version")
-    } else if range.contains(',') || range.contains("&&") {
-        Some("node-semver rejects `,` and `&&`: write a space")
-    } else {
-        None
-    }
-}
-
 /// The warnings about a range, given its alternatives.
 pub fn warnings(alloc: Global, pieces: &[Piece]) -> Result<Warnings, AllocError> {
     let mut warnings = Vec::new(alloc);

@@ -1,6 +1,6 @@
 //! `ranges check`: the ranges of package.json, deno.json, import maps and lists of ranges.
 
-use crate::advice::{npm_warning, warnings};
+use crate::advice::warnings;
 use crate::errors::{add_first, errors_at_end, errors_of, print_errors};
 use crate::explaining::has_left_out;
 use answers::asking::Problem;
@@ -224,7 +224,15 @@ fn warn<O: Write, E: Write>(
         };
         report.add(console, entry, finding)?;
     }
-    if let Some(warning) = npm_warning(range) {
+    // node-semver, and so npm, reads these in another way.
+    let warning = if range.trim_end().ends_with("||") {
+        Some("node-semver reads what follows the last `||` as every version")
+    } else if range.contains(',') || range.contains("&&") {
+        Some("node-semver rejects `,` and `&&`: write a space")
+    } else {
+        None
+    };
+    if let Some(warning) = warning {
         report.add(console, entry, Finding::new(Level::Warning, warning))?;
     }
     let warnings = warnings(console.alloc, pieces)?;

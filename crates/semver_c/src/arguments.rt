@@ -3,12 +3,12 @@
 ghost use Rattle.std.specs.Prelude.{◌≡◌, ◌<◌, Err, IfOk, IsUtf8, map, MatchResult};
 ghost use Rattle.std.specs.Str.Lines.{lines};
 ghost use Rattle.answers.specs.declared.asking.Problem.TheVariants as unanswered;
-ghost use Rattle.semver_c.specs.Arguments.{call_fault, fault_place, grammar_number, pre_release_by, problem_message, subject_number};
+ghost use Rattle.semver_c.specs.Arguments.{call_fault, fault_place, grammar_number, pre_release_by, problem_message};
 ghost use Rattle.semver_c.specs.Codes.{fault_code};
 ghost use Rattle.semver_c.specs.declared.arguments.Problem.TheVariants as problem;
 
 use crate::codes::Code;
-use answers::asking::Problem as Unanswered;
+use answers::asking::{Kind, Problem as Unanswered};
 use deno_semver::PreRelease;
 use semver_req::common::values::Flavour;
 use std::alloc::{AllocError, Global};
@@ -46,7 +46,10 @@ impl Problem {
         ensures { result ≡ fault_code (call_fault self.now) }
     {
         match self {
-            Problem::Unanswered(Unanswered::Invalid(argument)) => Code::of_invalid(argument.kind),
+            Problem::Unanswered(Unanswered::Invalid(argument)) => match argument.kind {
+                Kind::Version => Code::InvalidVersion,
+                Kind::Range | Kind::Package | Kind::Reference => Code::InvalidRange,
+            },
             Problem::Unanswered(Unanswered::OutOfMemory) => Code::NoMemory,
             Problem::NoGrammar => Code::NoGrammar,
             Problem::NotUtf8 => Code::NotUtf8,
@@ -94,18 +97,6 @@ pub fn flavour(number: u32) -> Result<Flavour, Problem>
 pub enum Subject {
     Package,
     Reference,
-}
-
-/// The subject of this number.
-pub fn subject_of(number: u32) -> Result<Subject, Problem>
-    ensures { MatchResult result (λ subject. number ≡ subject_number subject)
-        (λ error. (error ≡ problem.NoGrammar) × (1 < number)) }
-{
-    match number {
-        0 => Ok(Subject::Package),
-        1 => Ok(Subject::Reference),
-        _ => Err(Problem::NoGrammar),
-    }
 }
 
 /// Which pre-releases match: at 0 by npm's rule, at any other number all between the bounds.

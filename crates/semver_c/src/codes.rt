@@ -1,9 +1,9 @@
 //! Codes: what a call returns.
 
 ghost use Rattle.std.specs.Prelude.{◌≡◌};
-ghost use Rattle.semver_c.specs.Codes.{bool_code, kind_code, match_code, number_of, order_code};
+ghost use Rattle.semver_c.specs.Codes.{bool_code, match_code, number_of, order_code};
 
-use answers::asking::{Answer, Kind};
+use answers::asking::Answer;
 use std::cmp::Ordering;
 
 /// What a call returns: its answer, or why there is none.
@@ -74,16 +74,6 @@ impl Code {
             Ordering::Less => Code::Before,
             Ordering::Equal => Code::Same,
             Ordering::Greater => Code::After,
-        }
-    }
-
-    /// The code of an invalid argument.
-    pub fn of_invalid(kind: Kind) -> Code
-        ensures { result ≡ kind_code kind }
-    {
-        match kind {
-            Kind::Version => Code::InvalidVersion,
-            Kind::Range | Kind::Package | Kind::Reference => Code::InvalidRange,
         }
     }
 }

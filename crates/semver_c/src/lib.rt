@@ -43,8 +43,8 @@ use questions::{
     why_invalid,
 };
 use reports::{
-    code_or_problem, put, put_place, report_best,
-    report_filter, report_lowest,     report_numbers, report_places, report_problem, report_text, report_text_or_tag,
+    code_or_problem, put, put_items, put_place, report_best, report_filter, report_lowest,
+    report_places, report_problem, report_text, report_text_or_tag,
 };
 use semver_base::version::release;
 use semver_req::laws::equal_requirements;
@@ -482,7 +482,16 @@ pub extern "C" fn semver_version_numbers(
         numbers.old numbers.new needed.new result }
     ensures no_numbers { IsUntouchedWithoutValue numbers.old numbers.new needed.new result }
 {
-    report_numbers(numbers_of(alloc, version), numbers, needed)
+    match numbers_of(alloc, version) {
+        Ok(read) => {
+            put_items(&[read.major, read.minor, read.patch], numbers, needed);
+            Code::of_bool(read.is_unqualified).number()
+        }
+        Err(problem) => {
+            put_items(&[], numbers, needed);
+            problem.code().number()
+        }
+    }
 }
 
 /// The ranges of a range, as JSON: yes, or that it is a tag.

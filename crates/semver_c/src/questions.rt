@@ -15,7 +15,7 @@ ghost use Rattle.semver_c.specs.Codes.{match_code};
 ghost use Rattle.semver_c.specs.Held.{IsListBest, list_lines};
 ghost use Rattle.semver_c.specs.Questions.{BestLine, CanonicalBy, CommonBy, CommonOfAll, DependencyBy, DisplayedOf, EquivalentBy, ErrorsBy, ExplainsBy, ExportNameOf, Filters, Fits, LowestBy, MatchesHeld, NameWithVersionOf, NumbersOf, OrdersOf, OutsideBy, OverlapsBy, PackageBy, PackageErrorsBy, PackageOf, RangeBy, RangesBy, ReferenceErrorsOf, ReferenceOf, SortsOf, TagBy, VersionErrorOf, VersionListOf, VersionOf, VersionPartsOf, VersionReferenceOf, WhyBy, whole_package};
 
-use crate::arguments::{Problem, Subject, flavour, line_list, pre_release, subject_of, text};
+use crate::arguments::{Problem, Subject, flavour, line_list, pre_release, text};
 use crate::codes::Code;
 use crate::handles::VersionList;
 use answers::asking::Answer;
@@ -320,7 +320,11 @@ pub fn why_invalid(
     ensures { IsOneCallAnswer (WhyBy what grammar bytes.now)
         (λ answer. option_map string_bytes answer) result }
 {
-    let subject = subject_of(what)?;
+    let subject = match what {
+        0 => Subject::Package,
+        1 => Subject::Reference,
+        _ => return Err(Problem::NoGrammar),
+    };
     let flavour = flavour(grammar)?;
     let text = text(bytes)?;
     let fault = match subject {

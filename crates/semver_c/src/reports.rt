@@ -1,24 +1,19 @@
 //! How results are returned to C: a code, with a text or a list in the caller's buffer, or a place.
 
 ghost use Rattle.std.specs.Prelude.{◌≡◌, string_bytes};
-ghost use Rattle.std.specs.Cow.{cow_str_bytes};
-ghost use Rattle.std.specs.Option.{option_map};
 ghost use Rattle.answers.specs.Filtering.{list_answer};
 ghost use Rattle.semver_c.specs.Arguments.{call_fault, call_outcome, problem_message, problem_place};
-ghost use Rattle.semver_c.specs.Codes.{IsPlaced, IsReported, IsUntouched, IsUntouchedWithoutValue, always_yes, as_place, best_code, best_place, bool_code, code_of, fault_code, filter_code, filter_numbers, found_code, found_text, lowest_code, lowest_text, match_code, no_text, number_of, order_code, place_after, text_code, text_of, three_numbers, unqualified_code};
+ghost use Rattle.semver_c.specs.Codes.{IsPlaced, IsReported, IsUntouched, always_yes, best_code, best_place, code_of, fault_code, filter_code, filter_numbers, lowest_code, lowest_text, number_of, place_after, text_code, text_of};
 
 use crate::arguments::Problem;
 use crate::codes::Code;
-use crate::questions::Numbers;
 use answers::asking::Answer;
 use answers::questions::{Best, text_of_version};
 use deno_semver::Version;
 use std::alloc::Global;
-use std::borrow::CowStr;
-use std::cmp::Ordering;
 
-// Writes the items to the start of the buffer, if they fit, and stores their number.
-fn put_items<T: Copy>(items: &[T], out: &mut [T], needed: &mut usize)
+/// Writes the items to the start of the buffer, if they fit, and stores their number.
+pub fn put_items<T: Copy>(items: &[T], out: &mut [T], needed: &mut usize)
     ensures { IsPlaced items.now out.old out.new needed.new }
 {
     *needed = items.len();
@@ -181,24 +176,6 @@ pub fn report_places(
         Ok(places) => {
             put_items(places.as_slice(), out, needed);
             Code::Yes.number()
-        }
-        Err(problem) => {
-            put_items(&[], out, needed);
-            problem.code().number()
-        }
-    }
-}
-
-/// Reports the three numbers of a version, and whether it has neither a pre-release nor a build; for a problem, its code alone.
-pub fn report_numbers(answer: Result<Numbers, Problem>, out: &mut [u64], needed: &mut usize) -> i32
-    ensures reported { IsReported unqualified_code three_numbers
-        (call_outcome (λ numbers. numbers) answer) out.old out.new needed.new result }
-    ensures untouched { IsUntouchedWithoutValue out.old out.new needed.new result }
-{
-    match answer {
-        Ok(numbers) => {
-            put_items(&[numbers.major, numbers.minor, numbers.patch], out, needed);
-            Code::of_bool(numbers.is_unqualified).number()
         }
         Err(problem) => {
             put_items(&[], out, needed);
