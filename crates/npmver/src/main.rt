@@ -233,9 +233,10 @@ fn report<E: Write>(err: &mut E, problem: &Problem) -> u8
 fn main(rt: HostRuntime) -> ExitCode {
     let mut out = io::writer(&rt);
     let mut err = rt.stderr();
-    let arguments: io::Result<Vec<String>> = env::args(&rt).and_then(|arguments| Ok(
-        arguments.skip(1).collect(rt.alloc())?,
-    ));
+    let arguments: io::Result<Vec<String>> = env::args(&rt).and_then(|arguments| {
+        let arguments = arguments.skip(1).collect(rt.alloc())?;
+        Ok(arguments)
+    });
     let status = match arguments {
         Ok(arguments) => match arguments.as_slice() {
             [option] if option.as_str() == "--help" => match writeln!(out, "{HELP}") {

@@ -56,7 +56,8 @@ fn answer<R: Input + Files + AllocGlobal, O: Write, E: Write>(
     Ok(status)
 }
 
-// Parses the arguments, and runs their command with a buffered console, one that is quiet printing nowhere; or prints the help, the version, or what is wrong with them.
+// Parses the arguments, and runs their command, with a buffered console or, if it is quiet, one that prints nowhere. Or prints
+// the help, the version, or what is wrong with the arguments.
 fn run<R: Runtime + AllocGlobal, E: Write + Drop>(
     rt: &R,
     mut err: E,
@@ -113,9 +114,10 @@ fn main(rt: HostRuntime) -> ExitCode {
         out: style(rt.stdout().is_terminal(), no_color),
         err: style(rt.stderr().is_terminal(), no_color),
     };
-    let arguments: io::Result<Vec<String>> = env::args(&rt).and_then(|arguments| Ok(
-        arguments.collect(rt.alloc())?,
-    ));
+    let arguments: io::Result<Vec<String>> = env::args(&rt).and_then(|arguments| {
+        let arguments = arguments.collect(rt.alloc())?;
+        Ok(arguments)
+    });
     let outcome = match arguments {
         Ok(arguments) => run(&rt, rt.stderr(), terminal, arguments.as_slice()),
         Err(error) => Err(Stop::of(error, Stop::NoText)),
