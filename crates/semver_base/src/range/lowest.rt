@@ -8,7 +8,7 @@
 
 ghost use Rattle.std.specs.Prelude.{◌≡◌, ◌∷◌, ◌&&◌, ◌↔◌, [], IfOk, IfSome, IsTrue, is_some};
 ghost use Rattle.std.specs.List.{list_any, AllByRecursion};
-ghost use Rattle.semver_base.specs.Candidates.{from_set, from_start, filtered, lowest_free, lower_passing, lowest_of, own_pre, passes, pre_from, with_pre, zero_identifier, zero_pre};
+ghost use Rattle.semver_base.specs.Candidates.{from_set, from_start, filtered, lower_passing, lowest_of, own_pre, passes, pre_from, with_pre, zero_identifier, zero_pre};
 ghost use Rattle.semver_base.specs.Containment.{AreEquivalent, IsWithin, ReportsEquivalent, ReportsWithin};
 ghost use Rattle.semver_base.specs.LowestVersion.{HasNoBuild, IsLowestPassing, DecidesSome, all_mean_with, set_means_alone_with, sets_mean_with};
 ghost use Rattle.semver_base.specs.Meaning.{is_pre_match, range_means_with, release, set_means_with};
@@ -58,45 +58,6 @@ fn pre_from(alloc: Global, start: &VersionBound) -> Result<Version, AllocError>
 }
 
 impl RangeBound {
-    // The lowest version from this start on that no bound has to admit, if there is one.
-    fn lowest_free(
-        &self,
-        alloc: Global,
-        pre_release: PreRelease,
-    ) -> Result<Option<Version>, AllocError>
-        ensures { IfOk result (λ lowest. lowest ≡ lowest_free pre_release self.now) }
-    {
-        let RangeBound::Version(bound) = self else {
-            let zero = release(alloc, 0, 0, 0);
-            return match pre_release {
-                PreRelease::Restricted => Ok(Some(zero)),
-                PreRelease::Admitted => Ok(Some(zero_version(alloc, &zero)?)),
-            };
-        };
-        let version = &bound.version;
-        if bound.kind == VersionBoundKind::Exclusive && version.pre.is_empty() {
-            let next = if let Some(patch) = version.patch.checked_add(1) {
-                release(alloc, version.major, version.minor, patch)
-            } else if let Some(minor) = version.minor.checked_add(1) {
-                release(alloc, version.major, minor, 0)
-            } else if let Some(major) = version.major.checked_add(1) {
-                release(alloc, major, 0, 0)
-            } else {
-                return Ok(None);
-            };
-            return match pre_release {
-                PreRelease::Restricted => Ok(Some(next)),
-                PreRelease::Admitted => Ok(Some(zero_version(alloc, &next)?)),
-            };
-        }
-        match pre_release {
-            PreRelease::Restricted => {
-                Ok(Some(release(alloc, version.major, version.minor, version.patch)))
-            }
-            PreRelease::Admitted => Ok(Some(pre_from(alloc, bound)?)),
-        }
-    }
-
     // The lowest pre-release of this start's numbers from it on, if it is a pre-release.
     fn own_pre(&self, alloc: Global) -> Result<Option<Version>, AllocError>
         ensures { IfOk result (λ lowest. lowest ≡ own_pre self.now) }
@@ -194,7 +155,35 @@ impl Question<'_> {
             (passes self.now.pre_release self.now.own.now self.now.others.now self.now.without.now)
             found start.now) }
     {
-        let found = self.lower_passing(found, start.lowest_free(alloc, self.pre_release)?);
+        // The lowest release from the start on, and the bound whose own version is the lowest if pre-releases are admitted.
+        let (next, own) = match start {
+            RangeBound::Unbounded => (Some(release(alloc, 0, 0, 0)), None),
+            RangeBound::Version(bound) => {
+                let version = &bound.version;
+                if bound.kind == VersionBoundKind::Exclusive && version.pre.is_empty() {
+                    let next = if let Some(patch) = version.patch.checked_add(1) {
+                        Some(release(alloc, version.major, version.minor, patch))
+                    } else if let Some(minor) = version.minor.checked_add(1) {
+                        Some(release(alloc, version.major, minor, 0))
+                    } else if let Some(major) = version.major.checked_add(1) {
+                        Some(release(alloc, major, 0, 0))
+                    } else {
+                        None
+                    };
+                    (next, None)
+                } else {
+                    let own = release(alloc, version.major, version.minor, version.patch);
+                    (Some(own), Some(bound))
+                }
+            }
+        };
+        let free = match (self.pre_release, own, next) {
+            (PreRelease::Restricted, _, next) => next,
+            (PreRelease::Admitted, Some(own), _) => Some(pre_from(alloc, own)?),
+            (PreRelease::Admitted, None, Some(next)) => Some(zero_version(alloc, &next)?),
+            (PreRelease::Admitted, None, None) => None,
+        };
+        let found = self.lower_passing(found, free);
         let found = self.lower_passing(found, start.own_pre(alloc)?);
         Ok(self.lower_passing(found, start.zero_pre(alloc)?))
     }
