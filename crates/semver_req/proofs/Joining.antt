@@ -9,6 +9,7 @@ use Rattle.semver_base.specs.Clamp.{clamped}
 use Rattle.semver_base.specs.Comparators.{Comparator, comparator_line, comparator_range}
 use Rattle.semver_base.specs.Meaning.{everything}
 use Rattle.semver_base.specs.PartialTable.{IsBoundRejection, all_fit}
+use Rattle.semver_base.specs.declared.failure.Rejection.{Rejection}
 use Rattle.semver_base.specs.declared.failure.Rejection.TheVariants.{BoundTooLarge, NumberTooLarge}
 use Rattle.semver_base.specs.declared.lexical.values.Measured.TheVariants.{Fits, TooLarge}
 use Rattle.semver_base.specs.declared.partial.Partial.{Partial}
@@ -61,6 +62,24 @@ module _ (cs : List Comparator) (c : Comparator) where
         go true false other e = cc e
         go false b other e = cc e
 
+  -- a number is too large
+  with_large : numbers_fit c ≡ false → read.Invalid NumberTooLarge ≡ joined (cs ++ c ∷ [])
+  with_large over = sym (joined_snoc cs c ∙ go (list_all numbers_fit cs))
+    where
+      go : (a : Bool) → read_of (a && numbers_fit c) (list_all sums_fit cs && sums_fit c) (clamped (folded (map comparator_range cs)) (comparator_range c)) ≡ read.Invalid NumberTooLarge
+      go true = rw over refl
+      go false = refl
+
+  -- what was invalid stays so
+  with_invalid : {r : Rejection} → read.Invalid r ≡ joined cs → numbers_fit c ≡ true → read.Invalid r ≡ joined (cs ++ c ∷ [])
+  with_invalid {r} is fits = sym (joined_snoc cs c ∙ go (list_all numbers_fit cs) (list_all sums_fit cs) (folded (map comparator_range cs)) is)
+    where
+      go : (a b : Bool) (other : VersionRange) → read.Invalid r ≡ read_of a b other
+          → read_of (a && numbers_fit c) (b && sums_fit c) (clamped other (comparator_range c)) ≡ read.Invalid r
+      go true true other e = cc e
+      go true false other e = rw fits (sym e)
+      go false b other e = sym e
+
 -- ---- a comparator whose partial version is measured
 
 -- the partial version that fits is the one in the text
@@ -90,3 +109,9 @@ module _ (m : Operator) (cs : List Comparator) (p : Partial) where
   and_bound {range = range} is seen (inr rejected) other =
       let both = fitting_partial p seen in
       with_bound cs (comparator_of m p) range is (comparator_all m p ∙ both.1) (rw both.0 rejected.1)
+
+  pub and_large : TooLarge ≡ sized_partial p → read.Invalid NumberTooLarge ≡ joined (cs ++ comparator_of m p ∷ [])
+  and_large seen = with_large cs (comparator_of m p) (comparator_all m p ∙ large_partial p seen)
+
+  pub and_invalid : {q : Partial} {r : Rejection} → read.Invalid r ≡ joined cs → Fits q ≡ sized_partial p → read.Invalid r ≡ joined (cs ++ comparator_of m p ∷ [])
+  and_invalid is seen = with_invalid cs (comparator_of m p) is (comparator_all m p ∙ (fitting_partial p seen).1)

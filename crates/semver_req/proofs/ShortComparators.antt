@@ -45,7 +45,7 @@ use Rattle.semver_req.specs.Partials.{IsComponent, IsPartial, IsBarePartial, is_
 use Rattle.semver_req.specs.Pieces.{HasNoBar, IsCutting, IsFilled, IsHyphenPair, IsUpper, normal, npm, one_piece}
 use Rattle.semver_req.specs.PieceReading.{as_retained, numbers_fit, sums_fit}
 use Rattle.semver_req.specs.PieceSteps.{IsAdded, IsWholeRead}
-use Rattle.semver_req.specs.ShortComparators.{AreWildcards, IsFewer, IsGap, IsQualifiedComparator, IsShortEnd, IsShortHyphen, IsShortPartial, IsShortPiece, IsShortComparator, IsShortStart, IsStarOrQualified, IsUnclosed, IsWildcardFront, is_qualified, is_star, no_wildcard, one_wildcard, two_wildcards}
+use Rattle.semver_req.specs.ShortComparators.{IsAfterGap, AreWildcards, IsFewer, IsGap, IsQualifiedComparator, IsShortEnd, IsShortHyphen, IsShortPartial, IsShortPiece, IsShortComparator, IsShortStart, IsStarOrQualified, IsUnclosed, IsWildcardFront, is_qualified, is_star, no_wildcard, one_wildcard, two_wildcards}
 use Rattle.semver_req.specs.Single.{IsSingle, is_range}
 use Rattle.semver_req.specs.Written.{IsFront, IsOperatorCut, IsNonPrimitive, comparator_of}
 use Rattle.semver_req.specs.declared.common.comparator.Operator.{Operator}
@@ -441,6 +441,20 @@ start_piece {text} {start} p =
       is_kept = refl;
       no_bar = without_bar c.spaced;
     }
+
+-- a `<` or `<=`, maybe a space, and numbers
+pub short_end : (k : VersionBoundKind) {text behind rest : List ℕ} {numbers : ShortNumbers} {end : RangeBound} → text ≡ primitive_kind_text (less k) ++ behind → IsAfterGap behind rest
+    → IsShortPartial Normal rest numbers → IsLineRange (less_than k (of_short numbers)) (between (from (release 0 0 0)) end) → IsShortEnd text end
+short_end k {text} {behind} {rest} {numbers} text_is gap partial line = record {
+  kind = k;
+  rest = rest;
+  numbers = numbers;
+  gap = gap.0;
+  is_gap = gap.1;
+  text_is = text_is ∙ ap (λ t. primitive_kind_text (less k) ++ t) gap.2;
+  short_partial = partial;
+  line = line;
+}
 
 -- one end
 pub end_piece : {text : List ℕ} {zero end : ReleaseBound} → IsShortEnd text (release_bound end) → from (release 0 0 0) ≡ release_bound zero → precedence_cmp (release_of zero.numbers) (release_of end.numbers) ≡ Less

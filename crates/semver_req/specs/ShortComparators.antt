@@ -77,9 +77,6 @@ pub data IsStarOrQualified (f : Flavour) (text : List ℕ) : List VersionRange �
 
 -- ---- pieces
 
-abbrev pub less_sign : ℕ
-less_sign = 60
-
 -- nothing, or a space
 abbrev pub IsGap : List ℕ → Type 0
 IsGap gap = (gap ≡ []) ⊎ (gap ≡ space ∷ [])

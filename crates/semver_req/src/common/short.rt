@@ -4,11 +4,11 @@
 //! Most pieces are such texts. What this parses is a piece by the grammar, and a text has only one meaning; so each parser
 //! tries this first, and falls back to the full grammar on `None`.
 
-ghost use Rattle.std.specs.Prelude.{◌∷◌, IfOk, IfSome};
+ghost use Rattle.std.specs.Prelude.{IfOk, IfSome};
 ghost use Rattle.semver_base.specs.Comparators.{comparator_line};
 ghost use Rattle.semver_base.specs.PartialTable.{IsLineRange, of_short, release_bound, release_range};
 ghost use Rattle.semver_req.specs.Pieces.{IsCutting};
-ghost use Rattle.semver_req.specs.ShortComparators.{IsAfterGap, IsShortEnd, IsShortPartial, IsShortPiece, IsShortComparator, IsShortStart, IsStarOrQualified, IsWildcardFront, less_sign};
+ghost use Rattle.semver_req.specs.ShortComparators.{IsAfterGap, IsShortPartial, IsShortPiece, IsShortComparator, IsShortStart, IsStarOrQualified, IsWildcardFront};
 ghost use Rattle.semver_req.specs.Written.{comparator_of};
 ghost use Rattle.semver_req.specs.declared.common.values.Flavour.TheVariants.{Normal, Npm};
 
@@ -137,18 +137,6 @@ fn lower_bound(text: &[u8]) -> Option<ReleaseBound>
     short_partial(after_gap(rest), Flavour::Normal)?.greater_than(kind)
 }
 
-// Parses the whole text, which stands behind a `<`, as an optional `=`, an optional space and such numbers.
-#[inline(always)]
-fn upper_bound(text: &[u8]) -> Option<ReleaseBound>
-    ensures { IfSome result (λ end. IsShortEnd (less_sign ∷ text.now) (release_bound end)) }
-{
-    let (kind, rest) = match text {
-        [b'=', rest @ ..] => (VersionBoundKind::Inclusive, rest),
-        _ => (VersionBoundKind::Exclusive, text),
-    };
-    short_partial(after_gap(rest), Flavour::Normal)?.less_than(kind)
-}
-
 // The range of the whole text, if it is one or two bounds, or a hyphen range of npm's grammar. In a call of its own, so that plain texts
 // don't pay for it.
 #[inline(never)]
@@ -157,7 +145,12 @@ fn bounds(text: &str, flavour: Flavour) -> Option<ReleaseRange>
         → IfSome result (λ range. IsShortPiece flavour text.now (release_range range)) }
 {
     if let Some((front, back)) = text.split_once('<') {
-        let end = upper_bound(back.as_bytes())?;
+        let (kind, back) = match after(back, '=') {
+            Some(back) => (VersionBoundKind::Inclusive, back),
+            None => (VersionBoundKind::Exclusive, back),
+        };
+        let numbers = short_partial(after_gap(back.as_bytes()), Flavour::Normal)?;
+        let end = numbers.less_than(kind)?;
         if front.is_empty() {
             let zero = Numbers {
                 major: 0,

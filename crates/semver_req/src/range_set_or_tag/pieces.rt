@@ -1,7 +1,6 @@
 //! How npm's and the normalized grammar split a text at each `||`, and how they parse each piece.
 
 ghost use Rattle.std.specs.Prelude.{◌≡◌, ◌++◌, ◌∷◌, [], IfErr, IfOk, List, MatchOption, None, OnOk, ℕ};
-ghost use Rattle.semver_base.specs.Comparators.{Comparator};
 ghost use Rattle.semver_base.specs.Grammar.{IsSeen};
 ghost use Rattle.semver_base.specs.declared.failure.Rejection.TheVariants.{BoundTooLarge};
 ghost use Rattle.semver_base.specs.declared.lexical.values.Measured.TheVariants.{Fits};
@@ -67,36 +66,6 @@ impl RangeOrInvalid {
         }
     }
 
-    // The range of these comparators and one more.
-    fn and(self, alloc: Global, written: Written) -> Result<RangeOrInvalid, ParseFailure>
-        ensures value { (cs : List Comparator) (p : Partial) → self ≡ joined cs
-            → written.partial ≡ sized_partial p
-            → IfOk result (λ read. read ≡ joined (cs ++ comparator_of written.operator p ∷ [])) }
-        ensures memory { IfErr result (λ failure. failure ≡ None) }
-    {
-        let Written { operator, partial } = written;
-        let Measured::Fits(partial) = partial else {
-            drop(self);
-            return Ok(RangeOrInvalid::Invalid(Rejection::NumberTooLarge));
-        };
-        let range = match self {
-            RangeOrInvalid::Range(range) => range,
-            RangeOrInvalid::Invalid(rejection) => {
-                drop(partial);
-                return Ok(RangeOrInvalid::Invalid(rejection));
-            }
-        };
-        let next = operator.range(alloc, &partial);
-        drop(partial);
-        match next {
-            Ok(next) => Ok(RangeOrInvalid::Range(range.clamp_into(next)?)),
-            Err(failure) => {
-                drop(range);
-                no_range(failure)
-            }
-        }
-    }
-
     // Parses the rest of leading comparators with separators between them, of which this is the first. In a call of its own, since most pieces
     // are one comparator.
     #[inline(never)]
@@ -116,7 +85,24 @@ impl RangeOrInvalid {
             let Some((written, more)) = comparator_front(alloc, next, flavour)? else {
                 return Ok((read, next));
             };
-            read = read.and(alloc, written)?;
+            let Written { operator, partial } = written;
+            read = match (read, partial) {
+                (_read, Measured::TooLarge) => RangeOrInvalid::Invalid(Rejection::NumberTooLarge),
+                (RangeOrInvalid::Invalid(rejection), Measured::Fits(_partial)) => {
+                    RangeOrInvalid::Invalid(rejection)
+                }
+                (RangeOrInvalid::Range(range), Measured::Fits(partial)) => {
+                    let next = operator.range(alloc, &partial);
+                    drop(partial);
+                    match next {
+                        Ok(next) => RangeOrInvalid::Range(range.clamp_into(next)?),
+                        Err(failure) => {
+                            drop(range);
+                            no_range(failure)?
+                        }
+                    }
+                }
+            };
             rest = more;
         }
         Ok((read, rest))
