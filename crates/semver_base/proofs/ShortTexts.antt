@@ -13,17 +13,19 @@ use Rattle.std.proofs.Math.Seq.{drop-append_seam, take-append_seam, take-length}
 use Rattle.std.proofs.lemmas.List.{drop_more, get_or_append_left, nil_from_length, take_more}
 use Rattle.semver_base.specs.Characters.{dot}
 use Rattle.semver_base.specs.Grammar.{IsLongest, Stops}
-use Rattle.semver_base.specs.Lexical.{IsLooseNumber, IsStrictNumber}
+use Rattle.semver_base.specs.Lexical.{IsLooseNumber, IsQualifier, IsStrictNumber}
 use Rattle.semver_base.specs.Meaning.{release}
 use Rattle.semver_base.specs.ShortTexts.{IsBareNumber, IsBareTriple, IsPairFront, IsTripleFront, LacksDottedNumber, LacksShortNumber, LacksShortTriple}
-use Rattle.semver_base.specs.VersionParserSteps.{IsFittingNumber, IsFittingTriple, IsBareVersion, IsQualified}
+use Rattle.semver_base.specs.VersionGrammar.{version_of}
+use Rattle.semver_base.specs.VersionParserSteps.{IsFittingNumber, IsReadVersion}
+use Rattle.semver_base.specs.declared.lexical.values.Qualifier.{Qualifier}
 use Rattle.semver_base.specs.declared.lexical.values.Strictness.TheVariants.{Loose}
 use Rattle.semver_base.specs.declared.short.Numbers.{Numbers}
 use Rattle.semver_base.specs.declared.version.Version.{Version}
 use Rattle.semver_base.specs.ByteLaws.{joined_some_text, list_all-append}
 use Rattle.semver_base.specs.GrammarLaws.{mapped, narrowed, one_front}
 use Rattle.semver_base.specs.ListLaws.{run_longest, run_none}
-use Rattle.semver_base.proofs.VersionReading.{all_read, no_lead, triple_read}
+use Rattle.semver_base.proofs.VersionReading.{IsFittingTriple, all_read, no_lead, triple_read}
 use Rattle.semver_base.specs.SolidLaws.{all_ascii, ends_solid, is_solid_byte, qualifier_made, solid_all_ascii, some_text, starts_solid, trim_same}
 use Rattle.semver_base.proofs.WrittenVersions.{triple_made}
 use Rattle.semver_base.specs.TokenLaws.{loose_some, no_qualifier}
@@ -138,6 +140,17 @@ numbers_front : {text rest : List ℕ} {numbers : ℕ × (ℕ × ℕ)} (p : IsFi
 numbers_front {numbers = numbers} p = (triple_made.made p.triple.front numbers p.triple.stands, some_text (joined_some_text loose_some) p.triple.front p.triple.stands)
 
 -- ---- versions with nothing around them
+
+-- the version of these numbers and the qualifier that is the whole text
+pub record IsQualified (numbers : Numbers) (text : List ℕ) (v : Version) : Type 0 where
+  pub qualifier : Qualifier
+  pub longest : IsLongest (IsQualifier Loose) text qualifier []
+  pub version_is : v ≡ version_of ((numbers.major, (numbers.minor, numbers.patch)), qualifier)
+
+-- the whole text parses to the version, and trimming leaves it unchanged
+pub record IsBareVersion (text : List ℕ) (v : Version) : Type 0 where
+  pub version : IsReadVersion text v
+  pub trimmed : trim text ≡ text
 
 -- three numbers and a qualifier
 pub qualified_version : {text rest : List ℕ} {numbers : Numbers} {v : Version} → IsTripleFront text numbers.major numbers.minor numbers.patch rest → IsQualified numbers rest v → IsBareVersion text v

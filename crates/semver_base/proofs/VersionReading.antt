@@ -1,5 +1,5 @@
 -- How the version parser's steps give the outcome of a text, and why it is the only one.
-use Rattle.std.proofs.Common.{◌≡◌, ◌≤◌, ◌<◌, ◌^◌, ℕ, Bool, true, List, [], ◌∷◌, ◌++◌, length, Option, Some, None, Result, Ok, Err, refl, sym, ap, ◌∙◌, arith, inl, inr, ◌==◌, append_assoc, append-nil, length-append, Bor, ◌||◌, ◌⊎◌, slice_index, unwrap_or}
+use Rattle.std.proofs.Common.{◌≡◌, ◌≤◌, ◌<◌, ◌^◌, ℕ, Bool, true, List, [], ◌∷◌, ◌++◌, length, Option, Some, None, Result, Ok, Err, refl, sym, ap, ◌∙◌, arith, inl, inr, ◌==◌, append_assoc, append-nil, length-append, Bor, ◌||◌, ◌⊎◌, slice_index, unwrap_or, MatchResult, IsErrAnd, IfErr, MatchOption}
 use Rattle.std.specs.Char.{is_ascii_digit}
 use Rattle.std.specs.Str.Parse.{digits_value}
 use Rattle.std.proofs.lemmas.Bool.{false_from_ne_true, or_left, or_right}
@@ -8,14 +8,14 @@ use Rattle.std.proofs.lemmas.List.{nil_from_length}
 use Rattle.semver_base.specs.Grammar.{After, Followed, HasNone, IsAfter, IsLongest, IsSeen, Joined, Mapped, Prefixed, Optional, Run, Stops}
 use Rattle.semver_base.specs.Lexical.{IsWhitespace, IsByte, IsLooseNumber, IsQualifier, NoDigitFollows}
 use Rattle.semver_base.specs.VersionGrammar.{AllNumbersFit, IsFirstFault, IsLead, IsNumberFault, too_large, no_dot, later, IsTriple, IsVersion, IsVersionAnswer, IsVersionOutcome, is_version, is_fault, is_outside, IsVersionRejection, LacksDot, ignored, version_failure, version_of}
-use Rattle.semver_base.specs.VersionParserSteps.{IsFaultOfNumbers, IsFittingNumber, IsFittingTriple, IsNumberRejection, IsOutsideTriple, IsReadVersion, IsTripleRejection}
+use Rattle.semver_base.specs.VersionParserSteps.{IsFittingNumber, IsNumberRejection, IsReadVersion}
 use Rattle.semver_base.specs.declared.failure.Rejection.{Rejection}
 use Rattle.semver_base.specs.declared.failure.Rejection.TheVariants.{UnexpectedCharacter, MissingMinor, MissingPatch}
 use Rattle.semver_base.specs.declared.lexical.values.Qualifier.{Qualifier}
 use Rattle.semver_base.specs.declared.lexical.values.Strictness.TheVariants.{Loose}
 use Rattle.semver_base.specs.declared.version.Version.{Version}
 use Rattle.semver_base.specs.ValueLaws.{Unambiguous, after_one, followed_one, joined_one, mapped_one, prefixed_one}
-use Rattle.semver_base.specs.GrammarLaws.{Apart, NoClash, NonEmpty, followed, followed_none_second, joined, joined_none_first, mapped, mapped_none, optional_none, optional_some, prefixed_none, prefixed_some, no_clash, one_front, rest_is}
+use Rattle.semver_base.specs.GrammarLaws.{Apart, NoClash, NonEmpty, followed, followed_none_second, joined, joined_none_first, mapped, mapped_none, optional_none, optional_some, prefixed_none, prefixed_other, prefixed_some, no_clash, one_front, rest_is}
 use Rattle.semver_base.specs.ByteLaws.{BeginsBy, Disjoint, GoesBy, MadeOf, apart_by, begins_from_made, begins_wider, goes_from_made, goes_wider, joined_begins, joined_begins_either, joined_goes_second, joined_made, joined_some_text, made_wider, mapped_begins, mapped_made, prefixed_begins, prefixed_goes, prefixed_made, prefixed_some_text, optional_begins, optional_goes, optional_made}
 use Rattle.semver_base.specs.ListLaws.{run_longest}
 use Rattle.semver_base.specs.TokenLaws.{byte_begins, byte_goes, byte_longest, byte_none, byte_some, loose_one, qualifier_one, loose_begins, loose_end, loose_goes, loose_some}
@@ -50,12 +50,21 @@ equals_apart : Apart (Optional (IsByte 61)) (After IsWhitespace (Optional (Prefi
 equals_apart = apart_by (λ x. x == 61) is_after_equals equals_no_whitespace equals_goes after_equals_begins
 
 -- an optional `=`, by the rest after one
-pub optional_equals : (text rest : Bor (List ℕ)) (after : Option (Bor (List ℕ))) → IsAfter 61 text.now after → rest ≡ unwrap_or after text → IsSeen ignored (Optional (IsByte 61)) text.now tt rest.now
+optional_equals : (text rest : Bor (List ℕ)) (after : Option (Bor (List ℕ))) → IsAfter 61 text.now after → rest ≡ unwrap_or after text → IsSeen ignored (Optional (IsByte 61)) text.now tt rest.now
 optional_equals text rest None other is = rw is (record { value = None; longest = optional_none (byte_none 61 text.now None refl other); seen = refl })
 optional_equals text rest (Some more) e is = rw is (record { value = Some tt; longest = optional_some (byte_some 61) (byte_longest 61 text.now more.now e); seen = refl })
 
-pub lead_read : {text first second rest : List ℕ} → IsSeen ignored (Optional (IsByte 61)) text tt first → IsLongest IsWhitespace first tt second → IsSeen ignored (Optional (Prefixed 118 IsWhitespace)) second tt rest → IsLongest IsLead text tt rest
-lead_read p q r = mapped (mapped (followed equals_apart p.longest (mapped (followed whitespace_apart q r.longest))))
+-- an optional `v` and whitespace, by the rest after one
+optional_v : (text rest : Bor (List ℕ)) (after : Option (Bor (List ℕ))) → IsAfter 118 text.now after → MatchOption after (rest ≡ text) (λ more. IsLongest IsWhitespace more.now tt rest.now) → IsSeen ignored (Optional (Prefixed 118 IsWhitespace)) text.now tt rest.now
+optional_v text rest None other is = rw is (record { value = None; longest = optional_none (prefixed_other other); seen = refl })
+optional_v text rest (Some more) e whitespace = record { value = Some tt; longest = optional_some (prefixed_some_text 118) (prefixed_some e whitespace); seen = refl }
+
+-- the lead, by what follows an `=` and what follows a `v`
+pub lead_of : (text plain unsigned bare : Bor (List ℕ)) (equals v : Option (Bor (List ℕ))) → IsAfter 61 text.now equals → plain ≡ unwrap_or equals text → IsLongest IsWhitespace plain.now tt unsigned.now → IsAfter 118 unsigned.now v → MatchOption v (bare ≡ unsigned) (λ more. IsLongest IsWhitespace more.now tt bare.now) → IsLongest IsLead text.now tt bare.now
+lead_of text plain unsigned bare equals v after_equals is whitespace after_v rest =
+    let first = optional_equals text plain equals after_equals is in
+    let last = optional_v unsigned bare v after_v rest in
+    mapped (mapped (followed equals_apart first.longest (mapped (followed whitespace_apart whitespace last.longest))))
 
 abbrev is_lead_byte : ℕ → Bool
 is_lead_byte x = (x == 61) || is_after_equals x
@@ -99,6 +108,27 @@ core_clash = record { apart = λ a m b x v u w short long h seam. seam (triple_g
 number_stop : {text : List ℕ} {n : ℕ} (rest : List ℕ) → IsLongest IsLooseNumber text n rest → is_ascii_digit (slice_index rest 0) ≡ true → ⊥
 number_stop [] p d = cc d
 number_stop (y ∷ rest) p d = loose_end p y rest refl d
+
+-- the longest three leading numbers, which fit
+pub record IsFittingTriple (text : List ℕ) (v : ℕ × (ℕ × ℕ)) (rest : List ℕ) : Type 0 where
+  pub triple : IsLongest IsTriple text v rest
+  pub major_fits : v.0 < 2 ^ 64
+  pub minor_fits : v.1.0 < 2 ^ 64
+  pub patch_fits : v.1.1 < 2 ^ 64
+  pub no_digit : is_ascii_digit (slice_index rest 0) ≡ true → ⊥
+
+-- the first fault that a version's numbers may have
+abbrev pub IsFaultOfNumbers : List ℕ → Rejection → Type 0
+IsFaultOfNumbers = IsNumberFault (MissingMinor ∷ MissingPatch ∷ [])
+
+-- the text doesn't begin with three numbers, and none of them has a fault of its own
+pub record IsOutsideTriple (text : List ℕ) : Type 0 where
+  pub no_triple : HasNone IsTriple text
+  pub no_fault : (fault : Rejection) → IsFaultOfNumbers text fault → ⊥
+
+-- why the text doesn't begin with three numbers that fit
+abbrev pub IsTripleRejection : List ℕ → Rejection → Type 0
+IsTripleRejection text rejection = IsFaultOfNumbers text rejection ⊎ ((rejection ≡ UnexpectedCharacter) × IsOutsideTriple text)
 
 pub triple_read : {text first second third fourth rest : List ℕ} {m n p : ℕ} → IsFittingNumber text m first → first ≡ 46 ∷ second → IsFittingNumber second n third → third ≡ 46 ∷ fourth → IsFittingNumber fourth p rest → IsFittingTriple text (m, (n, p)) rest
 triple_read {rest = rest} a dot b point c = record {
@@ -335,6 +365,11 @@ rejected_answer source text e (inr h) (Ok w) k = let same = one_rejection h.1 k 
 rejected_answer source text e (inr h) (Err fault) k = let same : fault ≡ h.0 = cc (one_rejection h.1 k) in inr (rw same h.2)
 
 -- ---- what the steps return
+
+-- what `map_err` made an error from
+pub mapped_error : {T E D : Type 0} (P : E → D → Type 0) (Q : E → Type 0) {made : D} (r : Result T E) (s : Result T D) → MatchResult r (λ x. s ≡ Ok x) (λ e. IsErrAnd s (P e)) → s ≡ Err made → IfErr r Q → (e : E) × Q e × P e made
+mapped_error P Q (Ok x) s cases is h = cc (cases, is)
+mapped_error P Q (Err e) s cases is h = (e, h, rw is at cases)
 
 -- a failure of a text with this outcome
 pub shown_rejection : {text : List ℕ} {fault : Rejection} {failure : Option (List ℕ × Option (List ℕ))} → IsVersionOutcome text (Err fault) → (failure ≡ None) ⊎ (failure ≡ version_failure fault text) → IsVersionRejection text failure

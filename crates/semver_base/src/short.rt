@@ -1,16 +1,10 @@
-//! Numbers with dots between them, parsed in one pass over their bytes, and `M.m.p` formatted in one write.
+//! Numbers with dots between them, parsed in one pass over their bytes.
 //!
 //! Most versions and most requirements begin with them. Each parser tries this fast path first. What it returns is what the
-//! grammar says; on `None` the parser falls back to the full grammar. To be formatted, the three numbers of a version are first
-//! put together on the stack, from the end.
+//! grammar says; on `None` the parser falls back to the full grammar.
 
-ghost use Rattle.std.specs.Prelude.{IfNone, IfSome, ◌≡◌, ◌≤◌, ◌+◌, ◌∷◌, ◌++◌, length, drop};
-ghost use Rattle.semver_base.specs.Characters.{dot};
+ghost use Rattle.std.specs.Prelude.{IfNone, IfSome};
 ghost use Rattle.semver_base.specs.ShortTexts.{AreAll, AreShort, IsBareNumber, IsDottedNumber, IsShort, IsShortFront, IsTripleFront, LacksDottedNumber, LacksShortNumber, LacksShortTriple};
-ghost use Rattle.std.specs.Fmt.{decimal};
-
-use itoa::write_digits;
-use std::str::from_utf8_unchecked;
 
 // A number below this, times ten plus a digit, is a `u64`.
 const LIMIT: u64 = 1_000_000_000_000_000_000;
@@ -107,33 +101,4 @@ pub fn split_numbers(text: &str) -> Option<(Numbers, &str)>
             Some((numbers, rest))
         }
     }
-}
-
-/// The room for three numbers of at most 20 digits and two dots.
-pub(crate) const DOTTED_ROOM: usize = 62;
-
-// Writes the number and a `.` so that they end at `end`, and returns where the number begins.
-#[inline(always)]
-fn put_before(number: u64, bytes: &mut [u8], end: usize) -> usize
-    requires low { 21 ≤ end }
-    requires high { end ≤ length bytes.old }
-    ensures start { end ≤ result + 21 }
-    ensures within { result ≤ end }
-    ensures written { drop result bytes.new ≡ decimal number ++ (dot ∷ drop end bytes.old) }
-{
-    bytes[end - 1] = b'.';
-    write_digits(number, bytes, end - 1)
-}
-
-/// Formats three numbers with `.` between them into `room`.
-#[inline(always)]
-pub(crate) fn dotted(major: u64, minor: u64, patch: u64, room: &mut [u8; DOTTED_ROOM]) -> &str
-    ensures { result.now ≡ decimal major ++ (dot ∷ (decimal minor ++ (dot ∷ decimal patch))) }
-{
-    let bytes = &mut room[..];
-    let start = write_digits(patch, bytes, DOTTED_ROOM);
-    let start = put_before(minor, bytes, start);
-    let start = put_before(major, bytes, start);
-    let bytes = &room[..];
-    unsafe { from_utf8_unchecked(&bytes[start..]) }
 }

@@ -1,13 +1,14 @@
 //! Versions: parsing, formatting and precedence.
 
-ghost use Rattle.std.specs.Prelude.{◌≡◌, ◌<◌, ◌==◌, ◌&&◌, ◌↔◌, ◌⊎◌, length, refl, Result, Ok, Err, IfOk, IfErr, IfSome, [], None, Some, if◌then◌else◌, codes};
-ghost use Rattle.std.specs.Fmt.{DisplaysOnOk};
+ghost use Rattle.std.specs.Prelude.{◌≡◌, ◌<◌, ◌≤◌, ◌==◌, ◌+◌, ◌∷◌, ◌++◌, ◌&&◌, ◌↔◌, ◌⊎◌, length, drop, refl, Result, Ok, Err, IfOk, IfErr, IfSome, [], None, Some, if◌then◌else◌, codes};
+ghost use Rattle.std.specs.Fmt.{DisplaysOnOk, decimal};
 ghost use Rattle.std.specs.Str.{trim};
 ghost use Rattle.std.specs.Cmp.{IsTotalOrder};
 ghost use Rattle.std.specs.Ordering.{as_partial_cmp};
+ghost use Rattle.semver_base.specs.Characters.{dot};
 ghost use Rattle.semver_base.specs.declared.failure.Rejection.{Rejection};
 ghost use Rattle.semver_base.specs.VersionGrammar.{IsVersionAnswer, IsVersionOutcome, IsVersionRejection, version_failure};
-ghost use Rattle.semver_base.specs.VersionParserSteps.{IsFittingNumber, IsFittingTriple, IsNumberRejection, IsReadVersion, IsTripleRejection};
+ghost use Rattle.semver_base.specs.VersionParserSteps.{IsFittingNumber, IsNumberRejection, IsReadVersion};
 ghost use Rattle.semver_base.specs.Meaning.{release};
 ghost use Rattle.semver_base.specs.ShortTexts.{IsTripleFront};
 ghost use Rattle.semver_base.specs.Precedence.{number_of, pre_cmp, precedence_cmp, qualifiers_cmp, version_cmp};
@@ -17,12 +18,14 @@ ghost use Rattle.semver_base.specs.VersionText.{ReadsBack, prefixed, version_tex
 use crate::failure::{ParseFailure, Parsed, ParserError, Rejection};
 use crate::lexical;
 use crate::lexical::values::{Measured, Strictness};
-use crate::short::{DOTTED_ROOM, Numbers, dotted, split_numbers};
+use crate::short::{Numbers, split_numbers};
 use crate::string::{CowVec, SmallStackString, StringAppendable};
+use itoa::write_digits;
 use std::alloc::{AllocError, Global};
 use std::cmp::Ordering;
 use std::fmt;
 use std::marker::PhantomData;
+use std::str::from_utf8_unchecked;
 
 /// An identifier of a pre-release or a build.
 pub type VersionPreOrBuild = SmallStackString;
@@ -222,30 +225,6 @@ fn fitting_number(text: &str) -> Result<(u64, &str), Rejection>
     }
 }
 
-// Parses three leading numbers that fit.
-#[inline(always)]
-fn triple(text: &str) -> Result<(Numbers, &str), Rejection>
-    ensures read { IfOk result
-        (λ r. IsFittingTriple text.now (r.0.major, (r.0.minor, r.0.patch)) r.1.now) }
-    ensures rejected { IfErr result (IsTripleRejection text.now) }
-{
-    let (major, rest) = fitting_number(text)?;
-    let Some(rest) = lexical::after(rest, '.') else {
-        return Err(Rejection::MissingMinor);
-    };
-    let (minor, rest) = fitting_number(rest)?;
-    let Some(rest) = lexical::after(rest, '.') else {
-        return Err(Rejection::MissingPatch);
-    };
-    let (patch, rest) = fitting_number(rest)?;
-    let numbers = Numbers {
-        major,
-        minor,
-        patch,
-    };
-    Ok((numbers, rest))
-}
-
 // The failure of an invalid version text.
 fn failure(alloc: Global, rejection: Rejection, text: &str) -> ParseFailure
     ensures { (result ≡ None) ⊎ (result ≡ version_failure rejection text.now) }
@@ -293,22 +272,24 @@ fn read(alloc: Global, text: &str) -> Result<Version, ParseFailure>
 {
     // The lead is an optional `=` and an optional `v`, each with optional whitespace after it.
     let unsigned = lexical::after_whitespace(lexical::after(text, '=').unwrap_or(text));
-    let bare = match lexical::after(unsigned, 'v') {
-        Some(rest) => lexical::after_whitespace(rest),
-        None => unsigned,
+    let bare = lexical::after(unsigned, 'v').map_or(unsigned, lexical::after_whitespace);
+    let (major, rest) = fitting_number(bare).map_err(|rejection| failure(alloc, rejection, text))?;
+    let Some(rest) = lexical::after(rest, '.') else {
+        return Err(failure(alloc, Rejection::MissingMinor, text));
     };
-    let (numbers, rest) = match triple(bare) {
-        Ok(read) => read,
-        Err(rejection) => return Err(failure(alloc, rejection, text)),
+    let (minor, rest) = fitting_number(rest).map_err(|rejection| failure(alloc, rejection, text))?;
+    let Some(rest) = lexical::after(rest, '.') else {
+        return Err(failure(alloc, Rejection::MissingPatch, text));
     };
+    let (patch, rest) = fitting_number(rest).map_err(|rejection| failure(alloc, rejection, text))?;
     let (qualifier, rest) = lexical::qualifier(alloc, rest, Strictness::Loose)?;
     if !rest.is_empty() {
         return Err(failure(alloc, Rejection::UnexpectedCharacter, text));
     }
     Ok(Version {
-        major: numbers.major,
-        minor: numbers.minor,
-        patch: numbers.patch,
+        major,
+        minor,
+        patch,
         pre: qualifier.pre,
         build: qualifier.build,
     })
@@ -409,14 +390,37 @@ fn write_prefixed<W: fmt::Write>(
     Ok(())
 }
 
+// The room for three numbers of at most 20 digits and two dots.
+const DOTTED_ROOM: usize = 62;
+
+// Writes the number and a `.` so that they end at `end`, and returns where the number begins.
+#[inline(always)]
+fn put_before(number: u64, bytes: &mut [u8], end: usize) -> usize
+    requires low { 21 ≤ end }
+    requires high { end ≤ length bytes.old }
+    ensures start { end ≤ result + 21 }
+    ensures within { result ≤ end }
+    ensures written { drop result bytes.new ≡ decimal number ++ (dot ∷ drop end bytes.old) }
+{
+    bytes[end - 1] = b'.';
+    write_digits(number, bytes, end - 1)
+}
+
 /// Writes `M.m.p`, then `-` and the pre-release if any, then `+` and the build if any, with `.` between identifiers (SemVer
 /// 2.0.0, sections 2, 9 and 10).
 impl fmt::Display for Version {
     ghost output = { λ version. Some (version_text version) };
 
     fn fmt<W: fmt::Write>(&self, f: &mut fmt::Formatter<W>) -> fmt::Result {
+        // The three numbers are put together from the end, and written at once.
         let mut room = [0; DOTTED_ROOM];
-        f.write_str(dotted(self.major, self.minor, self.patch, &mut room))?;
+        let (major, minor, patch) = (self.major, self.minor, self.patch);
+        let bytes = &mut room[..];
+        let start = write_digits(patch, bytes, DOTTED_ROOM);
+        let start = put_before(minor, bytes, start);
+        let start = put_before(major, bytes, start);
+        let bytes = &room[..];
+        f.write_str(unsafe { from_utf8_unchecked(&bytes[start..]) })?;
         if is_unqualified(self) {
             return Ok(());
         }

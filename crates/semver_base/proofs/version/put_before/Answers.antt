@@ -1,6 +1,6 @@
 use Rattle.std.proofs.Common.{◌-◌, arith, length-set}
 use Rattle.std.proofs.lemmas.Fmt.{length-decimal-le}
-use Rattle.semver_base.proofs.short.put_before.Goals as goal
+use Rattle.semver_base.proofs.version.put_before.Goals as goal
 
 pub write_digits-requires : goal.write_digits-requires
 write_digits-requires c =
