@@ -16,6 +16,7 @@ use Rattle.deno_semver.specs.NameAndVersion.{IsNoNvText, IsNvAnswer, IsNvFront, 
 use Rattle.deno_semver.specs.NameAndVersionSteps.{IsFrontAnswer, IsFrontRejection, ReportsFailure}
 use Rattle.deno_semver.specs.declared.package.values.PackageNv.{PackageNv}
 use Rattle.deno_semver.specs.declared.package.name_version.PackageNvParseError.{PackageNvParseError}
+use Rattle.deno_semver.specs.Sameness.{same_nv as nv_same}
 use Rattle.deno_semver.proofs.Runs.{run_one}
 
 -- ---- where the parts end
@@ -97,9 +98,6 @@ reports_version h (inr rejected) (inr reported) = inr (rejected.0, is_bad_versio
 
 abbrev nv_of : List ℕ → Version → PackageNv
 nv_of name version = record { name = name; version = version }
-
-nv_same : {n m : List ℕ} {v w : Version} → n ≡ m → v ≡ w → nv_of n v ≡ nv_of m w
-nv_same e f = rw (e, f) refl
 
 pub reads : {text name version rest n : List ℕ} {v : Version} → IsNvText text name version rest → n ≡ name → IsVersionOutcome (trim version) (Ok v) → IsNvFront text (Ok (nv_of n v, rest))
 reads h is v = rw is (is_front h v)

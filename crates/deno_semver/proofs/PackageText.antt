@@ -1,31 +1,22 @@
 -- How the text of a package splits, in one way.
-use Rattle.std.proofs.Common.{◌≡◌, false, ◌<◌, ◌≤◌, ◌+◌, ◌==◌, ◌≢◌, ℕ, true, List, [], ◌∷◌, ◌++◌, length, take, drop, get_or, Option, Some, None, refl, sym, ap, ◌∙◌, arith, append_assoc, length-append, IsUtf8}
+use Rattle.std.proofs.Common.{◌≡◌, false, ◌<◌, ◌≤◌, ◌+◌, ◌==◌, ℕ, true, List, [], ◌∷◌, ◌++◌, length, take, drop, Option, Some, None, refl, sym, ap, ◌∙◌, arith, append_assoc, length-append, IsUtf8}
 use Rattle.std.specs.List.{list_all}
 use Rattle.std.specs.Str.{IsCharBoundary, NoCharPasses}
 use Rattle.std.proofs.Math.Seq.{take-append_seam}
 use Rattle.std.proofs.lemmas.Str.{IsCharBoundary-from_take, IsUtf8-append, IsUtf8-from_ascii}
 use Rattle.std.specs.Str.Pattern.{FindsChar, MatchBeginsAt, RFindsChar, SplitsAroundMatch}
 use Rattle.std.proofs.lemmas.Bool.{and_parts}
-use Rattle.std.proofs.lemmas.Bool.Decides.{nat_tests}
 use Rattle.std.proofs.lemmas.List.{append-nil, nil_from_length, take-append-drop}
-use Rattle.std.proofs.lemmas.List.Elements.{All-from_get_or}
-use Rattle.std.proofs.lemmas.List.Sums.{list_all-from_AllPass}
-use Rattle.std.proofs.lemmas.Str.Pattern.{NoCharPasses-char, drop_at_char}
+use Rattle.std.proofs.lemmas.Str.Pattern.{drop_at_char}
 use Rattle.std.proofs.lemmas.Str.Ascii.{IsAscii-cons, IsAscii-nil}
 use Rattle.semver_base.specs.Grammar.{CutsRun}
+use Rattle.deno_semver.specs.CutLaws.{around, none_passes}
 use Rattle.deno_semver.specs.Cuts.{is_not}
 use Rattle.deno_semver.specs.PackageSteps.{IsCut}
 use Rattle.deno_semver.specs.PackageText.{IsAfterScope, IsNamePart, IsPackageText, IsPathPart, IsScope, IsScopeAlone, LacksLast, LacksPart, PackageParts, starts_with_at, without_slash}
 use Rattle.deno_semver.proofs.Runs.{run_one}
 
 -- ---- at each `/`
-
-is_other : (m b : ℕ) → b ≢ m → is_not m b ≡ true
-is_other m b h = grind (arith, nat_tests)
-
-none_passes : (m : ℕ) (xs : List ℕ) → m < 128 → NoCharPasses (λ d. d == m) xs → list_all (is_not m) xs ≡ true
-none_passes m xs low h =
-    list_all-from_AllPass (is_not m) xs (All-from_get_or (λ b. is_not m b ≡ true) xs 0 (λ k l. is_other m (get_or xs k 0) (NoCharPasses-char m xs k h low l)))
 
 pub no_slash : (text : List ℕ) → NoCharPasses (λ d. d == 47) text → CutsRun (is_not 47) text text []
 no_slash text h = record { text_is = sym (append-nil text); pass = none_passes 47 text (omega arith) h; stops = tt }
@@ -44,7 +35,7 @@ no_at last h = (refl, none_passes 64 last (omega arith) h)
 
 pub at_last : (last name version : List ℕ) → SplitsAroundMatch (RFindsChar 64) last name version → IsNamePart last name (Some version)
 at_last last name version h = (
-  sym (take-append-drop h.0 last) ∙ (ap (λ t. t ++ drop h.0 last) (sym h.3) ∙ ap (λ t. name ++ t) (drop_at_char 64 last h.0 h.1 h.2.1 (omega arith) ∙ ap (λ t. 64 ∷ t) (sym h.4))),
+  around 64 last name version h.0 h.1 (omega arith) h.2.1 h.3 h.4,
   none_passes 64 version (omega arith) (rw h.4 h.2.0),
 )
 

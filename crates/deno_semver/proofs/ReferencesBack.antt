@@ -4,8 +4,8 @@ use Rattle.std.specs.Cmp.Lexicographic.{pointwise}
 use Rattle.std.specs.List.{list_all}
 use Rattle.std.proofs.lemmas.Bool.{and_parts}
 use Rattle.std.proofs.lemmas.Bool.Decides.{nat_tests}
-use Rattle.std.proofs.lemmas.List.Folds.{list_all-append}
 use Rattle.std.proofs.lemmas.Slice.Eq.{bytes_eq-Decides}
+use Rattle.semver_base.specs.ValueLaws.{all_second}
 use Rattle.semver_req.specs.Outcome.{TextsHaveOneOutcome}
 use Rattle.semver_req.specs.Requirement.{Requirement, wildcard}
 use Rattle.semver_req.specs.Rereading.{StarIsAnyVersion}
@@ -96,15 +96,12 @@ scoped_with : (scope : Option (List ℕ)) (name x : List ℕ) → scoped_name sc
 scoped_with None name x = refl
 scoped_with (Some scope) name x = append_assoc scope (47 ∷ name) x
 
-all_back : (p : ℕ → Bool) (xs ys : List ℕ) → list_all p (xs ++ ys) ≡ true → list_all p ys ≡ true
-all_back p xs ys h = (and_parts (list_all p xs) (list_all p ys) (sym (list_all-append p xs ys) ∙ h)).1
-
 -- without an `@` in the path there isn't a version in it
 pub no_version_in : (r : PackageReqReference) (path : List ℕ) → r.sub_path ≡ Some path → list_all (is_not 64) path ≡ true → HasNoVersionInPath r
 no_version_in r path is none before version h =
     let both : Some path ≡ Some (before ++ (64 ∷ version)) = sym is ∙ h.path in
     let same : path ≡ before ++ (64 ∷ version) = cc both in
-    cc (all_back (is_not 64) before (64 ∷ version) (sym (ap (list_all (is_not 64)) same) ∙ none))
+    cc (all_second (is_not 64) before (64 ∷ version) (sym (ap (list_all (is_not 64)) same) ∙ none))
 
 -- a last part that is a name alone, or is followed by a version
 not_empty : (last name : List ℕ) (version : Option (List ℕ)) → IsNamePart last name version → starts_with_at last ≡ false → 0 < length last → (0 < length name) × (starts_with_at name ≡ false)
@@ -129,7 +126,7 @@ alone None last (b ∷ name) version front some named plain =
 alone (Some scope) last [] version front some named plain = absurd (plain.no_slash scope refl)
 alone (Some []) last (b ∷ name) version front some named plain = cc front.at
 alone (Some (a ∷ scope)) last (b ∷ name) version front some named plain =
-    let back = all_back (is_not 64) scope (47 ∷ b ∷ name) plain.no_at in
+    let back = all_second (is_not 64) scope (47 ∷ b ∷ name) plain.no_at in
     record { some = omega arith; front = front; no_at = (and_parts (is_not 64 47) (list_all (is_not 64) (b ∷ name)) back).1 }
 
 -- ---- it parses back

@@ -1,9 +1,10 @@
 -- The name of a parsed package, followed by `@` and the text of a version, splits into that name and that text.
-use Rattle.std.proofs.Common.{◌≡◌, ◌<◌, ◌==◌, ℕ, true, false, Bool, List, [], ◌∷◌, ◌++◌, length, Option, Some, None, refl, sym, ap, subst, ◌∙◌, arith, append-nil, append_assoc, length-append}
+use Rattle.std.proofs.Common.{◌≡◌, ◌<◌, ◌==◌, ℕ, true, false, List, [], ◌∷◌, ◌++◌, length, Option, Some, None, refl, sym, ap, subst, ◌∙◌, arith, append-nil, append_assoc, length-append}
 use Rattle.std.specs.List.{list_all}
 use Rattle.std.proofs.lemmas.Bool.{and_from, and_parts}
 use Rattle.std.proofs.lemmas.Bool.Decides.{nat_tests}
 use Rattle.std.proofs.lemmas.List.Folds.{list_all-append}
+use Rattle.semver_base.specs.ValueLaws.{all_first}
 use Rattle.deno_semver.specs.Cuts.{is_not}
 use Rattle.deno_semver.specs.PackageText.{IsAfterScope, IsNamePart, IsPackageText, IsScope, PackageParts, scoped_name, starts_with_at, without_slash}
 
@@ -17,13 +18,9 @@ pub record IsReadName (name : List ℕ) : Type 0 where
 abbrev pub parts_with : Option (List ℕ) → List ℕ → List ℕ → PackageParts
 parts_with scope name version = record { scope = scope; name = name; version = Some version; path = [] }
 
--- what holds for the last part of a name
-front_passes : (p : ℕ → Bool) (xs ys : List ℕ) → list_all p (xs ++ ys) ≡ true → list_all p xs ≡ true
-front_passes p xs ys h = (and_parts (list_all p xs) (list_all p ys) (sym (list_all-append p xs ys) ∙ h)).0
-
 pub name_passes : (last name : List ℕ) (version : Option (List ℕ)) → IsNamePart last name version → list_all (is_not 47) last ≡ true → list_all (is_not 47) name ≡ true
 name_passes last name None h k = rw h.0 at k
-name_passes last name (Some v) h k = front_passes (is_not 47) name (64 ∷ v) (rw h.0 at k)
+name_passes last name (Some v) h k = all_first (is_not 47) name (64 ∷ v) (rw h.0 at k)
 
 -- a name without a scope is non-empty, and doesn't begin with `@`
 pub record IsBareName (name : List ℕ) : Type 0 where

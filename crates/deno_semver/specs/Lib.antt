@@ -1,3 +1,4 @@
+pub mod CutLaws
 pub mod Cuts
 pub mod DependencyText
 pub mod DependencyOutcome

@@ -1,18 +1,15 @@
 -- Where the text of a package has a fault, by the error that reports it.
-use Rattle.std.proofs.Common.{◌≡◌, ◌≢◌, ◌∙◌, ◌-◌, ◌==◌, ◌++◌, ◌<◌, ℕ, Bool, true, false, List, [], ◌∷◌, length, Option, None, Some, Result, Ok, Err, IfOk, Bor, MatchOption, ap, arith, drop, get_or, inl, inr, refl, subst, sym, take, ◌⊎◌, unwrap_or, take-append-drop}
+use Rattle.std.proofs.Common.{◌≡◌, ◌≢◌, ◌∙◌, ◌-◌, ◌==◌, ◌++◌, ℕ, Bool, true, false, List, [], ◌∷◌, length, Option, None, Some, Result, Ok, Err, IfOk, Bor, MatchOption, ap, arith, drop, inl, inr, refl, subst, sym, take, ◌⊎◌, unwrap_or}
 use Rattle.std.specs.List.{list_all}
-use Rattle.std.specs.Str.{NoCharPasses}
-use Rattle.std.specs.Str.Pattern.{FindsChar, HasCharAt, RFindsChar, SplitsAroundMatch}
+use Rattle.std.specs.Str.Pattern.{FindsChar, RFindsChar, SplitsAroundMatch}
 use Rattle.std.proofs.lemmas.Bool.Decides.{nat_tests}
-use Rattle.std.proofs.lemmas.List.Elements.{All-from_get_or}
-use Rattle.std.proofs.lemmas.List.Sums.{list_all-from_AllPass}
-use Rattle.std.proofs.lemmas.Str.Pattern.{NoCharPasses-char, drop_at_char}
 use Rattle.semver_base.specs.Failure.{snippet_of}
 use Rattle.semver_base.specs.Grammar.{IsAfter}
 use Rattle.semver_req.specs.Parsers.{Failure}
 use Rattle.semver_req.specs.SpecifierRejections.{IsSpecifierRejection, is_out_of_memory, large_bound, large_number, no_range, something_follows, whitespace_text}
 use Rattle.semver_req.specs.declared.common.values.Flavour.{Flavour}
 use Rattle.semver_req.specs.declared.common.values.Flavour.TheVariants.{Npm, Normal, Specifier}
+use Rattle.deno_semver.specs.CutLaws.{around, none_passes}
 use Rattle.deno_semver.specs.Cuts.{is_not}
 use Rattle.deno_semver.specs.PackageOutcome.{BadName, BadVersion, PackageFault, HasPath, IsPackageOutcome, IsPackageRejection, NoAt, NoName, Reports, rejected_by}
 use Rattle.deno_semver.specs.PackageText.{without_slash}
@@ -44,21 +41,11 @@ body_is text (Some body) h = sym (ap without_slash h)
 
 -- ---- the text around a character
 
-is_other : (m b : ℕ) → b ≢ m → is_not m b ≡ true
-is_other m b h = grind (arith, nat_tests)
-
-pub lacks : (m : ℕ) (text : List ℕ) → m < 128 → NoCharPasses (λ d. d == m) text → list_all (is_not m) text ≡ true
-lacks m text low h = list_all-from_AllPass (is_not m) text (All-from_get_or (λ b. is_not m b ≡ true) text 0 (λ k l. is_other m (get_or text k 0) (NoCharPasses-char m text k h low l)))
-
-around : (m : ℕ) (text front back : List ℕ) (i j : ℕ) → m < 128 → HasCharAt m text i j → front ≡ take i text → back ≡ drop j text → text ≡ front ++ (m ∷ back)
-around m text front back i j low at f g =
-    sym (take-append-drop i text) ∙ (ap (λ t. t ++ drop i text) (sym f) ∙ ap (λ t. front ++ t) (drop_at_char m text i j at low ∙ ap (λ t. m ∷ t) (sym g)))
-
 pub at_first : (text front back : List ℕ) → SplitsAroundMatch (FindsChar 47) text front back → (text ≡ front ++ (47 ∷ back)) × (list_all (is_not 47) front ≡ true)
-at_first text front back h = (around 47 text front back h.0 h.1 (omega arith) h.2.1 h.3 h.4, rw h.3 (lacks 47 (take h.0 text) (omega arith) h.2.0))
+at_first text front back h = (around 47 text front back h.0 h.1 (omega arith) h.2.1 h.3 h.4, rw h.3 (none_passes 47 (take h.0 text) (omega arith) h.2.0))
 
 pub at_last : (text front back : List ℕ) → SplitsAroundMatch (RFindsChar 64) text front back → (text ≡ front ++ (64 ∷ back)) × (list_all (is_not 64) back ≡ true)
-at_last text front back h = (around 64 text front back h.0 h.1 (omega arith) h.2.1 h.3 h.4, rw h.4 (lacks 64 (drop h.1 text) (omega arith) h.2.0))
+at_last text front back h = (around 64 text front back h.0 h.1 (omega arith) h.2.1 h.3 h.4, rw h.4 (none_passes 64 (drop h.1 text) (omega arith) h.2.0))
 
 -- ---- the fault that an error reports
 

@@ -14,12 +14,12 @@ use Rattle.semver_base.specs.declared.range.RangeBound.{RangeBound}
 use Rattle.semver_base.specs.declared.range.RangeBound.TheVariants as bound
 use Rattle.semver_base.specs.declared.range.VersionBoundKind.{VersionBoundKind}
 use Rattle.semver_base.specs.declared.range.VersionBoundKind.TheVariants as kind
-use Rattle.semver_base.proofs.LowestIdentifiers.{appended_next, le_then, zeros_lowest}
+use Rattle.semver_base.proofs.LowestIdentifiers.{appended_next, zeros_lowest}
 use Rattle.semver_base.proofs.LowestPres as pres
 use Rattle.semver_base.proofs.LowestReleases as releases
 use Rattle.semver_base.proofs.LowestReleases.{above_under, is_release_from, next_lowest, no_pre, under_above}
 use Rattle.semver_base.proofs.NumbersOrder.{by_numbers, numbers_le, numbers_under, Under}
-use Rattle.semver_base.specs.OrderLaws.{greater_from, le_then_first}
+use Rattle.semver_base.specs.OrderLaws.{greater_from, le_then, le_then_first}
 use Rattle.semver_base.specs.OverlapLaws.{not_none}
 
 -- ---- `0` below all of its numbers

@@ -2,10 +2,10 @@
 use Rattle.std.proofs.Common.{◌≡◌, ◌==◌, ◌<◌, ◌≤◌, ℕ, true, false, List, [], ◌∷◌, ◌++◌, Some, refl, inl, inr, arith, Ordering, Equal, Greater, Less}
 use Rattle.std.proofs.lemmas.Bool.{and_parts, cases_Bool}
 use Rattle.std.proofs.lemmas.Bool.Decides.{nat_tests}
-use Rattle.std.proofs.lemmas.Cmp.{ranked, tied_itself}
+use Rattle.std.proofs.lemmas.Cmp.{tied_itself}
 use Rattle.std.specs.Char.{is_ascii_digit}
 use Rattle.std.specs.Cmp.Lexicographic.{slice_cmp}
-use Rattle.std.specs.Ordering.{MatchOrdering, is_le, nat_cmp, ordering_then}
+use Rattle.std.specs.Ordering.{is_le, nat_cmp, ordering_then}
 use Rattle.std.specs.Str.{all_ascii_digits}
 use Rattle.std.specs.Str.Parse.{without_leading_plus}
 use Rattle.semver_base.specs.Candidates.{zero_identifier}
@@ -13,35 +13,13 @@ use Rattle.semver_base.specs.Lexical.{IsIdentifier, is_identifier_byte}
 use Rattle.semver_base.specs.Precedence.{identifier_class, identifier_cmp, identifier_value, is_number, number_of}
 use Rattle.semver_base.specs.PrecedenceLaws.{identifier_total}
 use Rattle.semver_base.specs.VersionText.{AreIdentifiers}
+use Rattle.semver_base.specs.OrderLaws.{le_then, nat_le_cmp}
 
 -- ---- `0` among the identifiers
 
 zero_number : number_of zero_identifier ≡ Some 0
 unfolding number_of
 zero_number = refl
-
--- ---- comparisons in a row
-
-pub le_then : (r s : Ordering) → is_le r ≡ true → (r ≡ Equal → is_le s ≡ true) → is_le (ordering_then r s) ≡ true
-le_then Less s h k = refl
-le_then Equal s h k = k refl
-le_then Greater s h k = cc h
-
-zero_below : (n : ℕ) → is_le (nat_cmp 0 n) ≡ true
-zero_below n = go (nat_cmp 0 n) (ranked 0 n (nat_cmp 0 n) refl)
-  where
-    go : (r : Ordering) → MatchOrdering r (0 < n) (0 ≡ n) (n < 0) → is_le r ≡ true
-    go Less h = refl
-    go Equal h = refl
-    go Greater h = absurd (omega arith)
-
-pub nat_le_cmp : (m n : ℕ) → m ≤ n → is_le (nat_cmp m n) ≡ true
-nat_le_cmp m n h = go (nat_cmp m n) (ranked m n (nat_cmp m n) refl)
-  where
-    go : (r : Ordering) → MatchOrdering r (m < n) (m ≡ n) (n < m) → is_le r ≡ true
-    go Less k = refl
-    go Equal k = refl
-    go Greater k = absurd (omega (arith, h, k))
 
 -- a list that has ended isn't above any
 nothing_lowest : {X : Type 0} (R : X → X → Ordering) (xs : List X) → is_le (slice_cmp R [] xs) ≡ true
@@ -81,8 +59,8 @@ class_number id e = elim (cases_Bool (is_number id)) [
 -- no identifier of the grammar is below `0`
 pub zero_lowest : (id : List ℕ) → IsIdentifier id id → is_le (identifier_cmp zero_identifier id) ≡ true
 zero_lowest id identifier = rw zero_number (
-    le_then (nat_cmp 0 (identifier_class id)) _ (zero_below (identifier_class id)) (λ number.
-    le_then (nat_cmp 0 (identifier_value id)) _ (zero_below (identifier_value id)) (λ _. zero_text id identifier (class_number id number))))
+    le_then (nat_cmp 0 (identifier_class id)) _ (nat_le_cmp 0 (identifier_class id) (omega arith)) (λ number.
+    le_then (nat_cmp 0 (identifier_value id)) _ (nat_le_cmp 0 (identifier_value id) (omega arith)) (λ _. zero_text id identifier (class_number id number))))
 
 -- ---- lists of identifiers
 

@@ -16,9 +16,8 @@ use Rattle.semver_base.specs.declared.range.RangeBound.{RangeBound}
 use Rattle.semver_base.specs.declared.range.RangeBound.TheVariants as bound
 use Rattle.semver_base.specs.declared.range.VersionBoundKind.{VersionBoundKind}
 use Rattle.semver_base.specs.declared.range.VersionBoundKind.TheVariants as kind
-use Rattle.semver_base.proofs.LowestIdentifiers.{le_then}
 use Rattle.semver_base.proofs.NumbersOrder.{by_numbers, numbers_above, numbers_le, numbers_tied, numbers_under, Under}
-use Rattle.semver_base.specs.OrderLaws.{greater_from, le_then_first}
+use Rattle.semver_base.specs.OrderLaws.{greater_from, le_then, le_then_first}
 use Rattle.semver_base.specs.OverlapLaws.{not_none}
 
 -- a release that the start includes

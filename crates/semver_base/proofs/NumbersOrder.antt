@@ -5,7 +5,7 @@ use Rattle.std.specs.FinMap.{nat_cmp-IsAntisymmetric}
 use Rattle.std.specs.Ordering.{is_le, nat_cmp, ordering_then, MatchOrdering}
 use Rattle.semver_base.specs.Precedence.{numbers_cmp, precedence_cmp, pre_cmp}
 use Rattle.semver_base.specs.declared.version.Version.{Version}
-use Rattle.semver_base.proofs.LowestIdentifiers.{le_then, nat_le_cmp}
+use Rattle.semver_base.specs.OrderLaws.{le_then, nat_le_cmp}
 
 then_in_threes : (a b c d : Ordering) → ordering_then a (ordering_then b (ordering_then c d)) ≡ ordering_then (ordering_then a (ordering_then b c)) d
 then_in_threes Less b c d = refl

@@ -66,7 +66,7 @@ same_fronts a b c d e h = elim (fronts a b c d e) [
   | longer x more p q ↦ absurd (goes_on b x more p (le_of_eq h))
 ]
 
-pair_is : {V W : Type 0} (u : V × W) (v : V) (w : W) → u.0 ≡ v → u.1 ≡ w → u ≡ (v, w)
+pub pair_is : {V W : Type 0} (u : V × W) (v : V) (w : W) → u.0 ≡ v → u.1 ≡ w → u ≡ (v, w)
 pair_is (x, y) v w p q = cc
 
 module _ {V W : Type 0} {S : List ℕ → List ℕ → Type 0} {A : List ℕ → V → Type 0} {B : List ℕ → W → Type 0} where

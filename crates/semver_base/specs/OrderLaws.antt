@@ -1,7 +1,7 @@
 -- Comparisons in a row, tests that follow from one another, and what lies between two pre-releases of the same three numbers.
-use Rattle.std.proofs.Common.{◌≡◌, ◌&&◌, Bool, true, false, refl, Ordering, Less, Equal, Greater, ◌==◌, ◌≤◌, ℕ, List, length, not, sym, ◌∙◌, is_le, nat_cmp}
-use Rattle.std.specs.Ordering.{is_gt, is_le, is_lt, ordering_then}
-use Rattle.std.proofs.lemmas.Cmp.{nat_cmp_total, tied_itself}
+use Rattle.std.proofs.Common.{◌≡◌, ◌&&◌, Bool, true, false, refl, Ordering, Less, Equal, Greater, ◌==◌, ◌≤◌, ◌<◌, ℕ, List, arith, length, not, sym, ◌∙◌, is_le, nat_cmp}
+use Rattle.std.specs.Ordering.{MatchOrdering, is_gt, is_le, is_lt, ordering_then}
+use Rattle.std.proofs.lemmas.Cmp.{nat_cmp_total, ranked, tied_itself}
 use Rattle.std.proofs.lemmas.Bool.{and_parts, eq-eqb, eqb-true}
 use Rattle.std.proofs.lemmas.Map.Keys.{le_from_is_le}
 use native.Mathlib.Nat.{le_antisymm, not-suc-le-zero}
@@ -47,6 +47,19 @@ less_from Equal h = cc h
 less_from Greater h = cc h
 
 -- ---- numbers, and comparisons in a row
+
+pub nat_le_cmp : (m n : ℕ) → m ≤ n → is_le (nat_cmp m n) ≡ true
+nat_le_cmp m n h = go (nat_cmp m n) (ranked m n (nat_cmp m n) refl)
+  where
+    go : (r : Ordering) → MatchOrdering r (m < n) (m ≡ n) (n < m) → is_le r ≡ true
+    go Less k = refl
+    go Equal k = refl
+    go Greater k = absurd (omega (arith, h, k))
+
+pub le_then : (r s : Ordering) → is_le r ≡ true → (r ≡ Equal → is_le s ≡ true) → is_le (ordering_then r s) ≡ true
+le_then Less s h k = refl
+le_then Equal s h k = k refl
+le_then Greater s h k = cc h
 
 pub le_then_first : (r s : Ordering) → is_le (ordering_then r s) ≡ true → is_le r ≡ true
 le_then_first Less s h = refl

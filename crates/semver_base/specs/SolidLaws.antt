@@ -65,13 +65,13 @@ identifiers_small b h = elim (or_cases (is_identifier_byte b) (b == 46) h) [
 identifiers_solid : (b : ℕ) → is_identifiers_byte b ≡ true → is_solid_byte b ≡ true
 identifiers_solid b h = implied 128 is_identifiers_byte is_solid_byte refl b (identifiers_small b h) h
 
-solid_small : (b : ℕ) → is_solid_byte b ≡ true → b < 128
+pub solid_small : (b : ℕ) → is_solid_byte b ≡ true → b < 128
 solid_small b h = in_range 33 126 b (and_parts (is_ascii_graphic b) _ h).0 refl
 
 pub solid_ascii : (b : ℕ) → is_solid_byte b ≡ true → is_ascii b ≡ true
 solid_ascii b h = implied 128 is_solid_byte is_ascii refl b (solid_small b h) h
 
-solid_no_white : (b : ℕ) → is_solid_byte b ≡ true → is_whitespace b ≡ false
+pub solid_no_white : (b : ℕ) → is_solid_byte b ≡ true → is_whitespace b ≡ false
 solid_no_white b h = not-true (is_whitespace b) (implied 128 is_solid_byte (λ x. not (is_whitespace x)) refl b (solid_small b h) h)
 
 pub solid_no_whitespace : (b : ℕ) → is_solid_byte b ≡ true → is_whitespace_byte b ≡ true → ⊥
@@ -134,7 +134,7 @@ all_ascii text h = IsAscii-from_all text (λ k d l. low _ (AllPass-from_list_all
 skip_same : (text : List ℕ) → StartsSolid text → skip_leading_whitespace text ≡ text
 skip_same text s = rw (s.text_is, solid_no_white s.first s.solid) refl
 
-stays : (b c : Bool) (x : ℕ) (text : List ℕ) → c ≡ false → cond (b && c) [] (x ∷ text) ≡ x ∷ text
+pub stays : (b c : Bool) (x : ℕ) (text : List ℕ) → c ≡ false → cond (b && c) [] (x ∷ text) ≡ x ∷ text
 stays true c x text e = rw e refl
 stays false c x text e = refl
 

@@ -199,7 +199,7 @@ module _ {V : Type 0} {A : List ℕ → V → Type 0} {S : List ℕ → Unit {0}
 pub record HasOther {V : Type 0} (A : List ℕ → V → Type 0) (p : ℕ → Bool) : Type 0 where
   pub other : (text : List ℕ) (v : V) → A text v → list_all p text ≡ true → ⊥
 
-all_first : (p : ℕ → Bool) (xs ys : List ℕ) → list_all p (xs ++ ys) ≡ true → list_all p xs ≡ true
+pub all_first : (p : ℕ → Bool) (xs ys : List ℕ) → list_all p (xs ++ ys) ≡ true → list_all p xs ≡ true
 all_first p [] ys h = refl
 all_first p (x ∷ xs) ys h = let both = and_parts (p x) (list_all p (xs ++ ys)) h in and_from (p x) (list_all p xs) both.0 (all_first p xs ys both.1)
 

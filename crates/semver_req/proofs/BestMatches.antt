@@ -7,6 +7,7 @@ use Rattle.std.specs.List.{list_any}
 use Rattle.std.proofs.lemmas.Bool.{and_parts, or_from, or_left, or_parts, or_right}
 use Rattle.semver_base.specs.PrecedenceLaws.{precedence_total}
 use Rattle.semver_base.specs.declared.version.Version.{Version}
+use Rattle.semver_base.specs.OrderLaws.{never_both}
 use Rattle.semver_req.specs.Resolve.{IsBestAt, IsBestMatch, lower}
 use Rattle.semver_req.specs.ResolveSteps.{IsKnown, OneWalkFinds, exceeds, nearer}
 use Rattle.semver_req.specs.declared.resolve.End.{End}
@@ -48,10 +49,6 @@ module _ {V : Type 0} (near : V → V → Bool) (ranks : IsStrictWeakOrder near)
       go true h = h
       go false is = absurd (cc (h, ranks.chain v other known is k))
 
-  and_none : (b c : Bool) → (b ≡ true → c ≡ false) → (b && c) ≡ false
-  and_none true c h = h refl
-  and_none false c h = refl
-
   no_match : (b c : Bool) → (b && c) ≡ false → b ≡ true → c ≡ false
   no_match true c h k = h
   no_match false c h k = cc k
@@ -59,9 +56,9 @@ module _ {V : Type 0} (near : V → V → Bool) (ranks : IsStrictWeakOrder near)
   -- no match seen so far is as good as a version that is nearer than all of them
   pub none_as_good : (versions : List V) (known : Option (ℕ × V)) (v : V) → IsKnown near means versions known → exceeds near v known ≡ true
       → list_any (is_as_good v) versions ≡ false
-  none_as_good versions None v h k = none_from means (is_as_good v) (λ other none. and_none (means other) _ (λ is. absurd (cc (none, is)))) versions h
+  none_as_good versions None v h k = none_from means (is_as_good v) (λ other none. never_both (means other) _ (λ is. absurd (cc (none, is)))) versions h
   none_as_good versions (Some known) v h k = none_from (is_better_match known.1) (is_as_good v)
-      (λ other none. and_none (means other) _ (λ is. ap not (nearer_than_third v known.1 other k (no_match (means other) _ none is)))) versions h.best
+      (λ other none. never_both (means other) _ (λ is. ap not (nearer_than_third v known.1 other k (no_match (means other) _ none is)))) versions h.best
 
   -- a version that isn't better changes nothing
   pub stays : (versions : List V) (known : Option (ℕ × V)) (v : V) → IsKnown near means versions known
@@ -93,12 +90,12 @@ module _ {V : Type 0} (near : V → V → Bool) (ranks : IsStrictWeakOrder near)
         at_place = at;
         matches = (and_parts _ _ k).0;
         best = list_any-append (is_better_match v) versions (v ∷ []) ∙ or_from _ _ (none_from (is_as_good v) (is_better_match v) no_better versions none)
-            (or_from _ _ (and_none (means v) _ (λ _. never_itself v)) refl);
+            (or_from _ _ (never_both (means v) _ (λ _. never_itself v)) refl);
         first = none;
       }
     where
       no_better : (other : V) → is_as_good v other ≡ false → is_better_match v other ≡ false
-      no_better other h = and_none (means other) _ (λ is. ranks.one_way v other (nearer_by (near v other) (no_match (means other) _ h is)))
+      no_better other h = never_both (means other) _ (λ is. ranks.one_way v other (nearer_by (near v other) (no_match (means other) _ h is)))
         where
           nearer_by : (b : Bool) → not b ≡ false → b ≡ true
           nearer_by true h = refl

@@ -1,10 +1,9 @@
 -- Fronts of texts of a grammar, and with which endings they are whole texts of it, whose values keep what is said of them.
-use Rattle.std.proofs.Common.{◌≡◌, ◌≤◌, ◌<◌, ℕ, Bool, true, List, [], ◌∷◌, ◌++◌, length, Option, Some, None, refl, sym, ap, subst, ◌∙◌, arith, append_assoc, append-nil}
-use Rattle.std.specs.List.{list_all}
-use Rattle.std.proofs.lemmas.Bool.{and_from, and_parts}
+use Rattle.std.proofs.Common.{◌≡◌, ◌≤◌, ◌<◌, ℕ, Bool, List, [], ◌∷◌, ◌++◌, length, Option, Some, None, refl, sym, ap, subst, ◌∙◌, arith, append_assoc, append-nil}
 use Rattle.semver_base.specs.Grammar.{After, Before, Either, this, that, Followed, Joined, Listed, last_item, closed_item, more_items, Mapped, Optional, Prefixed, Run}
 use Rattle.semver_base.specs.Lexical.{IsByte}
 use Rattle.semver_base.specs.GrammarLaws.{fronts, same, shorter, longer}
+use Rattle.semver_base.specs.ValueLaws.{all_first}
 
 -- the text is empty, or begins with a byte that begins a character
 abbrev pub Starts : List ℕ → Type 0
@@ -60,12 +59,8 @@ ends_here p v e h i = record { ending = []; value = v; is_ending = e; stands = r
 
 -- ---- runs and single bytes
 
-front_passes : (p : ℕ → Bool) (xs ys : List ℕ) → list_all p (xs ++ ys) ≡ true → list_all p xs ≡ true
-front_passes p [] ys h = refl
-front_passes p (x ∷ xs) ys h = let both = and_parts (p x) (list_all p (xs ++ ys)) h in and_from (p x) (list_all p xs) both.0 (front_passes p xs ys both.1)
-
 pub run_front : (p : ℕ → Bool) (x : ℕ) (xs u : List ℕ) (v : List ℕ) → Run p ((x ∷ xs) ++ u) v → Run p (x ∷ xs) (x ∷ xs)
-run_front p x xs u v h = record { some = omega arith; pass = front_passes p (x ∷ xs) u h.pass; is = refl }
+run_front p x xs u v h = record { some = omega arith; pass = all_first p (x ∷ xs) u h.pass; is = refl }
 
 pub run_ended : (p : ℕ → Bool) {E : List ℕ → Type 0} → E [] → IsEnded (Run p) Any E
 run_ended p e = record { ends = λ x xs u v s h i. ends_here (x ∷ xs) (x ∷ xs) e (run_front p x xs u v h) tt }

@@ -12,6 +12,7 @@ use Rattle.semver_base.specs.ByteLaws.{BeginsBy, Disjoint, GoesBy, MadeOf, apart
 use Rattle.semver_base.specs.GrammarLaws.{Apart, NonEmpty, one_front}
 use Rattle.semver_base.specs.ListLaws.{IsListing, listed_begins, listed_some}
 use Rattle.semver_base.specs.ValueLaws.{EachByte, Never, Unambiguous, after_one, before_one, each_made, either_one, followed_one, goes_within, in_place, listed_one, mapped_one, prefixed_one, never_by, some_within, unit_one}
+use Rattle.semver_base.specs.SolidLaws.{some_text}
 use Rattle.semver_req.specs.Comparators.{IsComparator}
 use Rattle.semver_req.specs.Partials.{IsPartial}
 use Rattle.semver_req.specs.Pieces.{IsFilled, IsHyphen, IsHyphened, IsListOperator, IsNpmSeparator, IsPiece, IsSeparator, IsUpper}
@@ -160,10 +161,6 @@ separator_ends : (s b : List ℕ) → 0 < length s → list_all is_separator_byt
 separator_ends [] b some pass = absurd (omega arith)
 separator_ends (x ∷ s) b some pass = stops_at is_bare_byte is_separator_byte bare_no_separator x (and_parts (is_separator_byte x) (list_all is_separator_byte s) pass).0
 
-some_length : {V : Type 0} {A : List ℕ → V → Type 0} {v : V} → NonEmpty A → (text : List ℕ) → A text v → 0 < length text
-some_length {v = v} never [] h = absurd (never.some v h)
-some_length never (x ∷ text) h = omega arith
-
 some_separate : MadeOf IsSomeWhitespace is_separator_byte
 some_separate = made_wider is_whitespace_byte is_separator_byte whitespace_separator some_whitespace_made
 
@@ -215,11 +212,11 @@ list_laid_out text cs (last_item {a} {v} h) =
 list_laid_out text cs (closed_item {a} {s} {v} h k) =
     let core = (comparator_within Npm).texts a v h in
     let pass = separator_made.made s tt k in
-    record { first = a; between = s; rest = []; value = core.0; text_is = ap (λ t. a ++ t) (sym (append-nil s)); core = core.1; separate = pass; first_ends = separator_ends s [] (some_length separator_some s k) pass; between_ends = tt; next = refl }
+    record { first = a; between = s; rest = []; value = core.0; text_is = ap (λ t. a ++ t) (sym (append-nil s)); core = core.1; separate = pass; first_ends = separator_ends s [] (some_text separator_some s k) pass; between_ends = tt; next = refl }
 list_laid_out text cs (more_items {a} {s} {b} {v} {vs} h k t) =
     let core = (comparator_within Npm).texts a v h in
     let pass = separator_made.made s tt k in
-    record { first = a; between = s; rest = b; value = core.0; text_is = refl; core = core.1; separate = pass; first_ends = separator_ends s b (some_length separator_some s k) pass; between_ends = list_stops b vs t; next = list_no_hyphen b vs t }
+    record { first = a; between = s; rest = b; value = core.0; text_is = refl; core = core.1; separate = pass; first_ends = separator_ends s b (some_text separator_some s k) pass; between_ends = list_stops b vs t; next = list_no_hyphen b vs t }
 
 pub no_both : Never IsHyphen IsList
 no_both = record { both = λ text v w h k. differ (one_layout true false text (hyphen_laid_out text v h) (list_laid_out text w k)) }
@@ -230,7 +227,7 @@ no_both = record { both = λ text v w h k. differ (one_layout true false text (h
 -- less is left after a separator and a comparator
 pub list_shorter : (f : Flavour) {rest next more : List ℕ} {c : Comparator} → IsLongest (IsSeparator f) rest tt next → IsLongest (IsComparator f) next c more → length more < length rest
 list_shorter f {rest} {next} {more} p q =
-    omega (arith, some_length (listing f).separator_some p.front p.stands, ap length p.text_is, length-append p.front next, ap length q.text_is, length-append q.front more)
+    omega (arith, some_text (listing f).separator_some p.front p.stands, ap length p.text_is, length-append p.front next, ap length q.text_is, length-append q.front more)
 
 -- ---- pieces
 

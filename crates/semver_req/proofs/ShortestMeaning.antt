@@ -1,9 +1,8 @@
 -- The shortest form of a range matches what the range matches.
-use Rattle.std.proofs.Common.{◌≡◌, ◌&&◌, ◌||◌, ◌==◌, ◌+◌, ◌<◌, ℕ, List, [], ◌∷◌, length, Bool, true, false, map, not, refl, sym, ap, ap₂, ◌∙◌, inl, inr, arith, if◌then◌else◌, nat_lt, Ordering, Less, Equal, Greater}
+use Rattle.std.proofs.Common.{◌≡◌, ◌&&◌, ◌||◌, ◌==◌, ◌+◌, ℕ, List, [], ◌∷◌, length, Bool, true, false, map, not, refl, sym, ap, ap₂, ◌∙◌, inl, inr, arith, if◌then◌else◌, nat_lt, Ordering, Less, Equal, Greater}
 use Rattle.std.proofs.lemmas.Bool.Decides.{nat_tests}
-use Rattle.std.proofs.lemmas.Cmp.{ranked}
 use Rattle.std.specs.FinMap.{nat_cmp-IsAntisymmetric}
-use Rattle.std.specs.Ordering.{is_ge, is_le, nat_cmp, ordering_then, MatchOrdering}
+use Rattle.std.specs.Ordering.{is_ge, is_le, nat_cmp}
 use Rattle.std.proofs.lemmas.Bool.{and_from, and_parts, eq-eqb, eqb-true, or_cases, or_left, or_right}
 use Rattle.semver_base.specs.Comparators.{Caret, Comparator, Bare, Tilde, comparator_range}
 use Rattle.semver_base.specs.Meaning.{alternative_means_with, bound_at, from, is_above, release, to_below, above_ge}
@@ -20,6 +19,8 @@ use Rattle.semver_base.specs.declared.range.VersionBoundKind.TheVariants as kind
 use Rattle.semver_base.specs.declared.range.VersionRange.{VersionRange}
 use Rattle.semver_base.specs.declared.version.Version.{Version}
 use Rattle.semver_base.specs.ShortLaws.{short_is}
+use Rattle.semver_base.specs.OverlapLaws.{not_none}
+use Rattle.semver_base.specs.OrderLaws.{le_then, nat_le_cmp}
 use Rattle.semver_req.specs.Rereading.{has_own_form, is_pre_of_zero, keeps_meaning, keeps_start}
 use Rattle.semver_req.proofs.Starts.{has_start, starts_or_is_open}
 
@@ -36,35 +37,19 @@ by_test P false fits other = other refl
 
 -- ---- 0.0.0
 
-zero_le_number : (n : ℕ) → is_le (nat_cmp 0 n) ≡ true
-zero_le_number n = go (nat_cmp 0 n) (ranked 0 n (nat_cmp 0 n) refl)
-  where
-    go : (r : Ordering) → MatchOrdering r (0 < n) (0 ≡ n) (n < 0) → is_le r ≡ true
-    go Less below = refl
-    go Equal same = refl
-    go Greater above = absurd (omega arith)
-
-le_then : (r s : Ordering) → is_le r ≡ true → (r ≡ Equal → is_le s ≡ true) → is_le (ordering_then r s) ≡ true
-le_then Less s h k = refl
-le_then Equal s h k = k refl
-le_then Greater s h k = h
-
 zero_tied : (n : ℕ) → nat_cmp 0 n ≡ Equal → (n == 0) ≡ true
 zero_tied n e = eq-eqb n 0 (sym (nat_cmp-IsAntisymmetric 0 n e))
 
-some_length : (x : List ℕ) (xs : List (List ℕ)) → (length (x ∷ xs) == 0) ≡ false
-some_length x xs = grind (arith, nat_tests)
-
 release_le : (pre : List (List ℕ)) (zeros : Bool) → (not (length pre == 0) && zeros) ≡ false → zeros ≡ true → is_le (pre_cmp [] pre) ≡ true
 release_le [] zeros h k = refl
-release_le (x ∷ xs) zeros h k = let none : true ≡ false = rw (some_length x xs, k) at h in cc none
+release_le (x ∷ xs) zeros h k = let none : true ≡ false = rw (not_none x xs, k) at h in cc none
 
 -- a version that isn't a pre-release of 0.0.0 isn't below it
 pub zero_le : (s : Version) → is_pre_of_zero s ≡ false → is_le (precedence_cmp (release 0 0 0) s) ≡ true
 zero_le s h =
-    le_then _ _ (zero_le_number s.major) (λ major.
-    le_then _ _ (zero_le_number s.minor) (λ minor.
-    le_then _ _ (zero_le_number s.patch) (λ patch.
+    le_then _ _ (nat_le_cmp 0 s.major (omega arith)) (λ major.
+    le_then _ _ (nat_le_cmp 0 s.minor (omega arith)) (λ minor.
+    le_then _ _ (nat_le_cmp 0 s.patch (omega arith)) (λ patch.
     release_le s.pre _ h (and_from _ _ (zero_tied s.major major) (and_from _ _ (zero_tied s.minor minor) (zero_tied s.patch patch))))))
 
 pub ge_turned : (r : Ordering) (x y : Version) → precedence_cmp x y ≡ r → is_le r ≡ true → is_ge (precedence_cmp y x) ≡ true

@@ -11,7 +11,7 @@ use Rattle.semver_base.specs.declared.lexical.values.Strictness.TheVariants.{Loo
 use Rattle.semver_base.specs.declared.partial.Partial.{Partial}
 use Rattle.semver_base.specs.declared.partial.XRange.{XRange}
 use Rattle.semver_base.specs.declared.partial.XRange.TheVariants.{Val, Wildcard}
-use Rattle.semver_base.specs.GrammarLaws.{Apart, fronts, longer, same, shorter}
+use Rattle.semver_base.specs.GrammarLaws.{Apart, fronts, longer, same, shorter, pair_is}
 use Rattle.semver_base.specs.ValueLaws.{in_place}
 use Rattle.semver_req.specs.Partials.{IsComponent, IsBarePartial, IsSecond, IsThird, is_wildcard, partial_of}
 use Rattle.semver_req.specs.declared.common.values.Flavour.TheVariants.{Normal, Specifier}
@@ -258,9 +258,6 @@ after_first : (s w : List ℕ) (t : Option (XRange × Option (XRange × Qualifie
 after_first s w None k past = rw k past.no_digit
 after_first [] w (Some v) k past = absurd k
 after_first (b ∷ s) w (Some v) (e, k) past = rw e refl
-
-pair_is : {V W : Type 0} (v : V × W) (x : V) (y : W) → v.0 ≡ x → v.1 ≡ y → v ≡ (x, y)
-pair_is (a, b) x y e f = rw (e, f) refl
 
 minor_found : (major x : XRange) (t : Option (XRange × Qualifier)) → IsCut (partial_of (major, Some (x, t))) (partial_of (major, Some (Val 0, None)))
 minor_found major x None = minor_cut

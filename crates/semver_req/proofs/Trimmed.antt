@@ -1,12 +1,12 @@
 -- What trimming leaves of a text, and the whitespace around it.
-use Rattle.std.proofs.Common.{◌≡◌, ◌<◌, ℕ, Bool, true, false, cond, List, [], ◌∷◌, ◌++◌, length, refl, sym, ap, ◌∙◌, inl, inr, arith, append_assoc, length-append, ◌&&◌, IsUtf8, encode_utf8, encode_utf8_all, drop_at, take_at}
+use Rattle.std.proofs.Common.{◌≡◌, ◌<◌, ℕ, false, List, [], ◌∷◌, ◌++◌, length, refl, sym, ap, ◌∙◌, inl, inr, arith, append_assoc, length-append, IsUtf8, encode_utf8, encode_utf8_all, drop_at, take_at}
 use Rattle.std.specs.Char.{is_not_whitespace, is_whitespace}
 use Rattle.std.specs.Str.{IsCharBoundary, NonePass, chars, drop_trailing_whitespace, skip_leading_whitespace, trim, trim_end, trim_start}
 use Rattle.std.proofs.lemmas.Bool.{cases_Bool, not-false}
 use Rattle.std.proofs.lemmas.Bool.Decides.{nat_tests}
 use Rattle.std.proofs.lemmas.Str.{IsCharBoundary-before_ascii, IsUtf8-drop, IsUtf8-past_char, IsUtf8-take, chars-append, chars_from_encodes, chars_past_char, encode_ascii, encodes-append, encodes-chars, encodes_same}
 use Rattle.semver_base.specs.Lexical.{IsWhitespace}
-use Rattle.semver_base.specs.SolidLaws.{EndsSolid, StartsSolid, is_solid_byte}
+use Rattle.semver_base.specs.SolidLaws.{EndsSolid, StartsSolid, solid_no_white, solid_small, stays}
 use Rattle.semver_req.proofs.TagPieces.{IsLeft, piece_left, skipped_twice}
 use Rattle.semver_req.proofs.WordEndings.{get_or-append-here}
 
@@ -19,10 +19,6 @@ skip_white (c ∷ cs) ds h = rw (not-false (is_whitespace c) h.0) (skip_white cs
 drop_white : (cs : List ℕ) → NonePass is_not_whitespace cs → drop_trailing_whitespace cs ≡ []
 drop_white [] h = refl
 drop_white (c ∷ cs) h = rw (drop_white cs h.1, not-false (is_whitespace c) h.0) refl
-
-stays : (b c : Bool) (x : ℕ) (text : List ℕ) → c ≡ false → cond (b && c) [] (x ∷ text) ≡ x ∷ text
-stays true c x text e = rw e refl
-stays false c x text e = refl
 
 drop_last : (cs : List ℕ) (last : ℕ) (ds : List ℕ) → is_whitespace last ≡ false → NonePass is_not_whitespace ds → drop_trailing_whitespace (cs ++ (last ∷ ds)) ≡ cs ++ (last ∷ [])
 drop_last [] last ds h k = rw (drop_white ds k, h) refl
@@ -87,12 +83,6 @@ module _ (front : List ℕ) (last : ℕ) (b : List ℕ) (u : IsUtf8 (front ++ (l
 
 -- ---- the text within
 
-solid_low : (b : ℕ) → is_solid_byte b ≡ true → b < 128
-solid_low b h = grind (arith, nat_tests)
-
-solid_white : (b : ℕ) → is_solid_byte b ≡ true → is_whitespace b ≡ false
-solid_white b h = grind (arith, nat_tests)
-
 -- a text, and the whitespace around what trimming leaves
 pub record IsAround (text : List ℕ) : Type 0 where
   pub ahead : List ℕ
@@ -136,6 +126,6 @@ around text u =
 pub trim_within : (a text b : List ℕ) → IsUtf8 (a ++ (text ++ b)) → IsWhitespace a tt → StartsSolid text → EndsSolid text → IsWhitespace b tt → trim (a ++ (text ++ b)) ≡ text
 trim_within a text b u h starts ends k =
     let some : IsUtf8 (text ++ b) = behind_whitespace a (text ++ b) u h in
-    let first : trim_start (text ++ b) ≡ text ++ b = rw starts.text_is (start_same starts.first (starts.rest ++ b) (rw starts.text_is at some) (solid_low starts.first starts.solid) (solid_white starts.first starts.solid)) in
+    let first : trim_start (text ++ b) ≡ text ++ b = rw starts.text_is (start_same starts.first (starts.rest ++ b) (rw starts.text_is at some) (solid_small starts.first starts.solid) (solid_no_white starts.first starts.solid)) in
     let second : text ++ b ≡ ends.front ++ (ends.last ∷ b) = ap (λ t. t ++ b) ends.text_is ∙ append_assoc ends.front (ends.last ∷ []) b in
-    ap trim_end (start_skipped a (text ++ b) u h ∙ (first ∙ second)) ∙ (end_dropped ends.front ends.last b (rw second at some) (solid_low ends.last ends.solid) (solid_white ends.last ends.solid) k ∙ sym ends.text_is)
+    ap trim_end (start_skipped a (text ++ b) u h ∙ (first ∙ second)) ∙ (end_dropped ends.front ends.last b (rw second at some) (solid_small ends.last ends.solid) (solid_no_white ends.last ends.solid) k ∙ sym ends.text_is)

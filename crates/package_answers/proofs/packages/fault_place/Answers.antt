@@ -1,7 +1,8 @@
 use Rattle.std.proofs.Common.{◌≡◌, arith, rules, sym, ◌∙◌}
+use Rattle.deno_semver.specs.CutLaws.{none_passes}
 use Rattle.deno_semver.specs.PackageText.{without_slash}
 use Rattle.package_answers.specs.Errors as at
-use Rattle.package_answers.proofs.PackagePlaces.{at_first, at_path, body_is, is_scope_alone, lacks, lacks_at_sign, lacks_name}
+use Rattle.package_answers.proofs.PackagePlaces.{at_first, at_path, body_is, is_scope_alone, lacks_at_sign, lacks_name}
 use Rattle.package_answers.proofs.packages.fault_place.Goals as goal
 
 pub returns-in-MissingAtSymbol-clause-place : goal.returns-in-MissingAtSymbol-clause-place
@@ -20,7 +21,7 @@ returns-in-Some-clause-place c =
 pub returns-in-None-clause-place : goal.returns-in-None-clause-place
 returns-in-None-clause-place c =
     let body : c.unwrap_or-body.result.now ≡ without_slash c.args.text.now = rw c.unwrap_or-body.ensures (body_is c.args.text c.after.result c.after.ensures) in
-    λ f fault h. rw (is_scope_alone f fault (rw c.in-InvalidPackageName.is at h)) (at.no_slash (rw body at (lacks 47 c.unwrap_or-body.result.now (omega arith) c.in-None.ensures.cases)))
+    λ f fault h. rw (is_scope_alone f fault (rw c.in-InvalidPackageName.is at h)) (at.no_slash (rw body at (none_passes 47 c.unwrap_or-body.result.now (omega arith) c.in-None.ensures.cases)))
 
 pub returns-in-Some-code_snippet-clause-place : goal.returns-in-Some-code_snippet-clause-place
 returns-in-Some-code_snippet-clause-place c =

@@ -5,9 +5,10 @@ use Rattle.deno_semver.specs.Kind.{scheme_of}
 use Rattle.deno_semver.specs.PackageOutcome.{BadVersion}
 use Rattle.deno_semver.specs.ReferenceOutcome.{BadText, IsReferenceOutcome, ReferenceFault, ReportsReference, unboxed}
 use Rattle.deno_semver.specs.declared.package.values.PackageKind.{PackageKind}
+use Rattle.deno_semver.specs.CutLaws.{none_passes}
 use Rattle.package_answers.specs.References as at
 use Rattle.package_answers.specs.References.{IsReferenceFaultAt}
-use Rattle.package_answers.proofs.PackagePlaces.{at_last, both, lacks}
+use Rattle.package_answers.proofs.PackagePlaces.{at_last, both}
 use Rattle.package_answers.proofs.ReferencePlaces.{behind, body_is, has_bad_text, has_version, lacks_scheme, no_memory, no_version, read, reported}
 use Rattle.package_answers.proofs.references.reference_errors.Goals as goal
 use Rattle.package_answers.proofs.references.reference_errors.Goals.{in-NotExpectedScheme, in-Invalid+in-Some, in-Invalid+in-None, in-InvalidPathWithVersion+in-Some-rsplit_once, in-InvalidPathWithVersion+in-None-rsplit_once, in-Memory}
@@ -43,7 +44,7 @@ returns-after-error c =
           rw (w.place-is, is.2) (at.at_version w.in-Some-rsplit_once.path.now w.in-Some-rsplit_once._version.now parts.0 parts.1)
       | in-InvalidPathWithVersion+in-None-rsplit_once w ↦
           let is = has_version k text e fault w.in-InvalidPathWithVersion.field-0.value h (ap unboxed w.in-InvalidPathWithVersion.is) in
-          absurd (no_version (rw is.2 at o) (lacks 64 text (omega arith) w.in-None-rsplit_once.ensures.cases))
+          absurd (no_version (rw is.2 at o) (none_passes 64 text (omega arith) w.in-None-rsplit_once.ensures.cases))
       | in-Memory w ↦ absurd (no_memory k text e fault h (ap unboxed w.in-Memory.is))
     ] in
     both c.errors_at.result _ _ _ c.errors_at.ensures.reported c.errors_at.ensures.errors
