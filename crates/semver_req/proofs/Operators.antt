@@ -1,7 +1,7 @@
 -- Leading comparators, by the operator that comes first.
 use Rattle.std.proofs.Common.{◌≡◌, ℕ, true, List, [], ◌∷◌, ◌++◌, Option, Some, None, refl, sym, ap, ◌∙◌, arith, slice_index}
 use Rattle.std.proofs.lemmas.Bool.Decides.{nat_tests}
-use Rattle.semver_base.specs.Grammar.{Either, this, that, HasNone, IsLongest, IsSeen}
+use Rattle.semver_base.specs.Grammar.{Either, this, that, HasNone, IsLongest, IsSeen, ReadsAs}
 use Rattle.semver_base.specs.Lexical.{IsWhitespace}
 use Rattle.semver_base.specs.declared.lexical.values.Measured.{Measured}
 use Rattle.semver_base.specs.declared.partial.Partial.{Partial}
@@ -11,7 +11,7 @@ use Rattle.semver_base.specs.GrammarLaws.{NonEmpty, either_none, either_that, ei
 use Rattle.semver_base.specs.ValueLaws.{some_within}
 use Rattle.semver_req.specs.Comparators.{IsComparator, HasOperator, IsBare, IsPrimitiveKind}
 use Rattle.semver_req.specs.Partials.{IsPartial, sized_partial}
-use Rattle.semver_req.specs.Written.{IsFront, IsOperatorCut, IsNonPrimitive, ReadsComparator}
+use Rattle.semver_req.specs.Written.{IsFront, IsOperatorCut, IsNonPrimitive, ReadsComparator, with_operator}
 use Rattle.semver_req.specs.declared.common.comparator.Operator.{Operator}
 use Rattle.semver_req.specs.declared.common.comparator.Operator.TheVariants as operator
 use Rattle.semver_req.specs.declared.common.comparator.Written.{Written}
@@ -117,7 +117,7 @@ module _ {text middle : List ℕ} {kind : PrimitiveKind} (s : IsLongest IsPrimit
   pub no_bare : (f : Flavour) → HasNone (IsBare f) text
   no_bare f = mapped_none (none_by_byte (partial_some f) (any_begins f) text (λ x t e k. partial_no_primitive_kind x k (primitive_byte x t e)))
 
-  pub primitive_kind_some_front : {start rest : List ℕ} {answer : Measured Partial} → IsLongest IsWhitespace middle tt start → IsSeen sized_partial (IsPartial Normal) start answer rest
+  primitive_kind_some_front : {start rest : List ℕ} {answer : Measured Partial} → IsLongest IsWhitespace middle tt start → IsSeen sized_partial (IsPartial Normal) start answer rest
       → IsFront (IsComparator Normal) text (record { operator = operator.Primitive kind; partial = answer }) rest
   primitive_kind_some_front b p = record {
     partial = p.value;
@@ -125,5 +125,11 @@ module _ {text middle : List ℕ} {kind : PrimitiveKind} (s : IsLongest IsPrimit
     seen = p.seen;
   }
 
-  pub primitive_kind_no_front : {start : List ℕ} → IsLongest IsWhitespace middle tt start → HasNone (IsPartial Normal) start → HasNone (IsComparator Normal) text
+  primitive_kind_no_front : {start : List ℕ} → IsLongest IsWhitespace middle tt start → HasNone (IsPartial Normal) start → HasNone (IsComparator Normal) text
   primitive_kind_no_front b n = either_none no_operator_form (either_none (mapped_none (primitive_none Normal s b n)) (no_bare Normal))
+
+  -- after the whitespace behind the operator, a partial version or none
+  pub primitive_kind_front_read : {start : List ℕ} (r : Option (Measured Partial × List ℕ)) → IsLongest IsWhitespace middle tt start → ReadsAs sized_partial (IsPartial Normal) start r
+      → ReadsComparator (IsComparator Normal) text (with_operator (operator.Primitive kind) r)
+  primitive_kind_front_read None b none = primitive_kind_no_front b none
+  primitive_kind_front_read (Some p) b some = primitive_kind_some_front b some

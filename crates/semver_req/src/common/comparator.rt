@@ -92,22 +92,6 @@ pub fn non_primitive_front(
     }
 }
 
-/// Parses a leading normalized comparator (node-semver's range grammar, `simple`). Fails only out of memory.
-pub fn normal_front(alloc: Global, text: &str) -> Result<Option<(Written, &str)>, AllocError>
-    ensures { IfOk result (λ r. ReadsComparator (IsComparator Normal) text.now (answer_of r)) }
-{
-    let Some((kind, rest)) = primitive_kind_front(text) else {
-        return non_primitive_front(alloc, text, Flavour::Normal);
-    };
-    match partial_front(alloc, after_whitespace(rest), Flavour::Normal)? {
-        Some((partial, rest)) => {
-            let operator = Operator::Primitive(kind);
-            Ok(Some((Written { operator, partial }, rest)))
-        }
-        None => Ok(None),
-    }
-}
-
 // The parsed partial version with this operator.
 #[inline(always)]
 fn with_operator<'a>(
@@ -155,23 +139,8 @@ fn npm_by_operator(
     }
 }
 
-/// Parses a leading npm comparator (node-semver's range grammar, `simple`, with `~>`, with what npm ignores before a partial
-/// version, and with a comparison operator that is ignored before a `~` or a `^`). Fails only out of memory.
-#[inline(always)]
-pub fn npm_front(alloc: Global, text: &str) -> Result<Option<(Written, &str)>, AllocError>
-    ensures { IfOk result (λ r. ReadsComparator (IsComparator Npm) text.now (answer_of r)) }
-{
-    let Some((kind, rest)) = primitive_kind_front(text) else {
-        return npm_by_operator(alloc, text, Operator::Absent);
-    };
-    let operator = Operator::Primitive(kind);
-    match after_some_whitespace(rest) {
-        Some(start) => npm_by_operator(alloc, start, operator),
-        None => Ok(with_operator(operator, partial_front(alloc, rest, Flavour::Npm)?)),
-    }
-}
-
-/// Parses a leading comparator of the grammar (node-semver's range grammar, `simple`). Fails only out of memory.
+/// Parses a leading comparator of the grammar (node-semver's range grammar, `simple`; npm's with `~>`, with what npm ignores
+/// before a partial version, and with a comparison operator that is ignored before a `~` or a `^`). Fails only out of memory.
 pub fn comparator_front(
     alloc: Global,
     text: &str,
@@ -180,8 +149,23 @@ pub fn comparator_front(
     ensures { IfOk result (λ r. ReadsComparator (IsComparator flavour) text.now (answer_of r)) }
 {
     match flavour {
-        Flavour::Npm => npm_front(alloc, text),
-        Flavour::Normal => normal_front(alloc, text),
+        Flavour::Npm => match primitive_kind_front(text) {
+            None => npm_by_operator(alloc, text, Operator::Absent),
+            Some((kind, rest)) => {
+                let operator = Operator::Primitive(kind);
+                match after_some_whitespace(rest) {
+                    Some(start) => npm_by_operator(alloc, start, operator),
+                    None => Ok(with_operator(operator, partial_front(alloc, rest, Flavour::Npm)?)),
+                }
+            }
+        },
+        Flavour::Normal => match primitive_kind_front(text) {
+            None => non_primitive_front(alloc, text, Flavour::Normal),
+            Some((kind, rest)) => {
+                let partial = partial_front(alloc, after_whitespace(rest), Flavour::Normal)?;
+                Ok(with_operator(Operator::Primitive(kind), partial))
+            }
+        },
         Flavour::Specifier => non_primitive_front(alloc, text, Flavour::Specifier),
     }
 }
