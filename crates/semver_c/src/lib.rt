@@ -43,8 +43,8 @@ use questions::{
     why_invalid,
 };
 use reports::{
-    code_or_problem, put, put_items, put_place, report_best, report_filter, report_lowest,
-    report_places, report_problem, report_text, report_text_or_tag,
+    put, put_items, put_place, report_best, report_filter, report_lowest, report_places,
+    report_problem, report_text, report_text_or_tag,
 };
 use semver_base::version::release;
 use semver_req::laws::equal_requirements;
@@ -731,7 +731,10 @@ pub extern "C" fn semver_req_fits(
         (λ req. IsCode (MatchesHeld pre_releases req version.now) (λ code. code) result) }
 {
     let requirement = handle.take(alloc);
-    let code = code_or_problem(matches_held(alloc, &*requirement, version, pre_releases));
+    let code = match matches_held(alloc, &*requirement, version, pre_releases) {
+        Ok(code) => code.number(),
+        Err(problem) => problem.code().number(),
+    };
     *handle = RequirementHandle::keep(requirement);
     code
 }

@@ -39,16 +39,6 @@ pub fn put_place<T>(answer: &Result<T, Problem>, place: &mut usize)
     }
 }
 
-/// The code, or that of a problem.
-pub fn code_or_problem(answer: Result<Code, Problem>) -> i32
-    ensures { result ≡ code_of (λ code. code) (call_outcome (λ code. code) answer) }
-{
-    match answer {
-        Ok(code) => code.number(),
-        Err(problem) => problem.code().number(),
-    }
-}
-
 /// Reports a problem by its code, and its message in the buffer.
 pub fn report_problem(problem: &Problem, out: &mut [u8], needed: &mut usize) -> i32
     ensures code { result ≡ number_of (fault_code (call_fault problem.now)) }
