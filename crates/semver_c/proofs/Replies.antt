@@ -1,5 +1,6 @@
 -- What is returned to C, from the results of questions.
-use Rattle.std.proofs.Common.{◌≡◌, ℕ, List, Option, Some, None, Result, Ok, Err, refl, ap, subst, ◌∙◌, inl, inr, ◌⊎◌, ℤ}
+use Rattle.std.proofs.Common.{◌≡◌, ℕ, List, Option, Some, None, Result, Ok, Err, IfOk, IsErrAnd, MatchResult, refl, sym, ap, subst, ◌∙◌, inl, inr, ◌⊎◌, ℤ}
+use Rattle.std.proofs.lemmas.Result.{err_from_is_err_and}
 use Rattle.semver_base.specs.declared.range.PreRelease.{PreRelease}
 use Rattle.semver_base.specs.declared.version.Version.{Version}
 use Rattle.semver_req.specs.Requirement.{inner_means_with, tag_of}
@@ -7,11 +8,15 @@ use Rattle.semver_req.specs.declared.range_set_or_tag.RangeSetOrTag.{RangeSetOrT
 use Rattle.semver_req.specs.declared.range_set_or_tag.RangeSetOrTag.TheVariants as inner
 use Rattle.semver_req.specs.Resolve.{IsBestMatch, IsOnlyMatch}
 use Rattle.answers.specs.Filtering.{better_line, line_passes}
+use Rattle.answers.specs.Sorting.{AreOnlySortedPlaces, AreSortedPlaces, SortedLines, standing_lines}
+use Rattle.answers.specs.declared.asking.Problem.TheVariants as unanswered
 use Rattle.answers.specs.declared.questions.End.{End}
+use Rattle.answers.specs.declared.sorting.Order.TheVariants.{Ascending}
 use Rattle.semver_c.specs.Codes.{IsCode, IsOneReply, IsPlaceReply, IsReply, IsReported, Reports, code_of, no_memory, no_place, place_after}
 use Rattle.semver_c.specs.Arguments.{CallFault, IsCallAnswer, IsOneCallAnswer, memory, call_outcome, problem_place}
 use Rattle.semver_c.specs.Held.{IsListBest}
 use Rattle.semver_c.specs.declared.arguments.Problem.{Problem}
+use Rattle.semver_c.specs.declared.arguments.Problem.TheVariants as problem
 use Rattle.semver_c.specs.declared.codes.Code.{Code}
 use Rattle.semver_c.specs.declared.codes.Code.TheVariants as code
 
@@ -88,6 +93,21 @@ one_replied {X = X} {I = I} Asked value answer h coded shown old new needed code
     is (inl none) (inl short) = inl short
     is (inl none) (inr reported) = inl (reported.0 ∙ ap (code_of coded) none)
     is (inr a) reported = inr (call_outcome value answer, a, reported)
+
+-- ---- a list that is held
+
+abbrev answered : List ℕ → Result (List ℕ) CallFault
+answered places = Ok places
+
+-- how it is sorted
+pub sorted_reply : {V E : Type 0} (items : V → List ℕ) (P : E → Problem → Type 0) (lines : List (Option Version)) (found : Result V E) (answer : Result V Problem)
+    → IfOk found (λ v. AreSortedPlaces Ascending (standing_lines 0 lines) (items v)) → IfOk found (λ v. AreOnlySortedPlaces Ascending (standing_lines 0 lines) (items v))
+    → MatchResult found (λ v. answer ≡ Ok v) (λ e. IsErrAnd answer (P e)) → ((e : E) (p : Problem) → P e p → p ≡ problem.Unanswered unanswered.OutOfMemory)
+    → IsCallAnswer (SortedLines Ascending lines) items answer
+sorted_reply items P lines (Ok v) answer sorted only is made = rw is (record { is = inr (items v, sorted, refl); only = λ o a. inr (ap answered (sym (only a.0 a.1)) ∙ sym a.2) })
+sorted_reply items P lines (Err e) answer sorted only is made =
+    let p = err_from_is_err_and answer is in
+    rw (p.1, made e p.0 p.2) (record { is = inl refl; only = λ o a. inl refl })
 
 -- ---- the best match of a list that is held
 

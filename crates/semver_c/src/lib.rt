@@ -26,8 +26,9 @@ mod handles;
 mod questions;
 mod reports;
 
-use answers::questions::End;
-use arguments::pre_release;
+use answers::questions::{End, text_of_version};
+use answers::sorting::{self, Order};
+use arguments::{Problem, pre_release};
 use codes::Code;
 use deno_semver::PreRelease;
 use deno_semver::npm::is_valid_npm_tag;
@@ -36,11 +37,10 @@ use handles::{RequirementHandle, VersionHandle, VersionListHandle};
 use questions::{
     best_held, best_line, canonical_form, common, common_of_all, dependency_of, displayed_version,
     equivalent_ranges, errors_of, explanation_of, export_name_of, filter, filter_held, fits,
-    held_canonical, held_displayed, is_tag, lowest, match_code, matches_held, name_with_version_of,
-    names_tag, numbers_of, order_of, outside, overlap, package_errors_of, package_of, ranges_of,
-    read_list, read_package_of, read_range, read_version, reference_errors_of, reference_of,
-    sorted_held, sorted_lines, version_error_of, version_parts_of, version_reference_of,
-    why_invalid,
+    is_tag, lowest, match_code, matches_held, name_with_version_of, names_tag, numbers_of,
+    order_of, outside, overlap, package_errors_of, package_of, ranges_of, read_list,
+    read_package_of, read_range, read_version, reference_errors_of, reference_of, sorted_lines,
+    version_error_of, version_parts_of, version_reference_of, why_invalid,
 };
 use reports::{
     put, put_items, put_place, report_best, report_filter, report_lowest, report_places,
@@ -849,7 +849,10 @@ pub extern "C" fn semver_req_normal(
         always_yes (λ text. text) out.old out.new needed.new result) }
 {
     let requirement = handle.take(alloc);
-    let code = report_text(held_canonical(alloc, &*requirement), out, needed);
+    let canonical = requirement
+        .to_string_normalized(alloc)
+        .map_err(Problem::from);
+    let code = report_text(canonical, out, needed);
     *handle = RequirementHandle::keep(requirement);
     code
 }
@@ -868,7 +871,8 @@ pub extern "C" fn semver_version_text(
         always_yes (λ text. text) out.old out.new needed.new result) }
 {
     let version = handle.take(alloc);
-    let code = report_text(held_displayed(alloc, &*version), out, needed);
+    let displayed = text_of_version(alloc, &*version).map_err(Problem::from);
+    let code = report_text(displayed, out, needed);
     *handle = VersionHandle::keep(version);
     code
 }
@@ -1078,7 +1082,8 @@ pub extern "C" fn semver_list_sort(
     ensures no_places { IsUntouched places.old places.new needed.new result }
 {
     let versions = list.take(alloc);
-    let code = report_places(sorted_held(alloc, &*versions), places, needed);
+    let sorted = sorting::sorted_lines(alloc, versions.lines.as_slice(), Order::Ascending);
+    let code = report_places(sorted.map_err(Problem::from), places, needed);
     *list = VersionListHandle::keep(versions);
     code
 }

@@ -8,7 +8,6 @@ ghost use Rattle.semver_req.specs.Requirement.{inner_text, tag_of};
 ghost use Rattle.answers.specs.Asking.{Is};
 ghost use Rattle.answers.specs.Filtering.{list_answer, list_matches};
 ghost use Rattle.answers.specs.Questions.{match_of};
-ghost use Rattle.answers.specs.Sorting.{SortedLines};
 ghost use Rattle.answers.specs.declared.sorting.Order.TheVariants as sorting;
 ghost use Rattle.semver_c.specs.Arguments.{IsCallAnswer, IsOneCallAnswer, pre_release_by};
 ghost use Rattle.semver_c.specs.Codes.{match_code};
@@ -28,7 +27,7 @@ use answers::questions::{
     overlaps, text_of_version, version_outside,
 };
 use answers::reading::{range, version};
-use answers::sorting::{Order, sort, sorted_lines as sorted_list};
+use answers::sorting::{Order, sort};
 use deno_semver::jsr::normalized_export_name;
 use deno_semver::package::PackageName;
 use deno_semver::{PreRelease, Version, VersionReq};
@@ -533,14 +532,6 @@ pub fn best_held(
     }
 }
 
-/// In which order do the versions stand?
-pub fn sorted_held(alloc: Global, list: &VersionList) -> Result<Vec<usize>, Problem>
-    ensures { IsCallAnswer (SortedLines sorting.Ascending (list_lines list.now))
-        (λ places. places.items) result }
-{
-    Ok(sorted_list(alloc, list.lines.as_slice(), Order::Ascending)?)
-}
-
 /// The code of whether the version matches the range.
 pub fn match_code(range: &VersionReq, version: &Version, pre_release: PreRelease) -> Code
     ensures { result ≡ match_code (match_of pre_release range.now.inner version.now) }
@@ -563,18 +554,4 @@ pub fn matches_held(
     let text = text(bytes)?;
     let version = version(alloc, 0, text)?;
     Ok(match_code(range, &version, pre_release(pre_releases)))
-}
-
-/// The canonical form of the range.
-pub fn held_canonical(alloc: Global, range: &VersionReq) -> Result<String, Problem>
-    ensures { IsCallAnswer (Is (inner_text range.now.inner)) (λ text. string_bytes text) result }
-{
-    Ok(range.to_string_normalized(alloc)?)
-}
-
-/// The version as displayed.
-pub fn held_displayed(alloc: Global, version: &Version) -> Result<String, Problem>
-    ensures { IsCallAnswer (Is (version_text version.now)) (λ text. string_bytes text) result }
-{
-    Ok(text_of_version(alloc, version)?)
 }
