@@ -2,7 +2,6 @@
 
 ghost use Rattle.std.specs.Prelude.{◌≡◌, ◌⊎◌, Err, IfErr, IfOk};
 ghost use Rattle.semver_base.specs.NormalText.{IsWritableRange};
-ghost use Rattle.semver_base.specs.declared.range.VersionRange.{VersionRange};
 ghost use Rattle.answers.specs.Explained.{AreExplained, IsExplained, IsExplainedPiece, IsMeaningOfRange};
 ghost use Rattle.answers.specs.Asking.{IsFailureAt, OutOfMemory, fault_of};
 ghost use Rattle.answers.specs.Reading.{IsRangeAt};

@@ -1,6 +1,6 @@
 //! Which of several versions match a range, and which of those that were parsed is the best match.
 
-ghost use Rattle.std.specs.Prelude.{◌≡◌, ◌&&◌, IfErr, IfOk, None};
+ghost use Rattle.std.specs.Prelude.{◌≡◌, IfErr, IfOk, None};
 ghost use Rattle.semver_req.specs.Requirement.{inner_means_with, tag_of};
 ghost use Rattle.semver_req.specs.TextRejection.{IsTextRejection};
 ghost use Rattle.semver_req.specs.Resolve.{IsBestMatch, IsOnlyMatch};

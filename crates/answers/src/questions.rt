@@ -3,7 +3,7 @@
 //! The arguments are parsed from left to right, and the first invalid one is the problem. If a range is a tag, the result is
 //! the tag once all arguments are parsed. Any other problem is out of memory.
 
-ghost use Rattle.std.specs.Prelude.{◌≡◌, ◌⊎◌, IfErr, IfOk, None, string_bytes};
+ghost use Rattle.std.specs.Prelude.{◌≡◌, ◌⊎◌, IfErr, IfOk, string_bytes};
 ghost use Rattle.std.specs.Option.{option_copied};
 ghost use Rattle.std.specs.Str.{trim};
 ghost use Rattle.semver_base.specs.VersionGrammar.{IsVersionRejection};

@@ -13,7 +13,6 @@
 #![tactic(auto)]
 
 ghost use Rattle.std.specs.Prelude.{◌≡◌, ◌∷◌, MatchOption, codes, map, string_bytes};
-ghost use Rattle.answers.specs.declared.asking.Kind.TheVariants as kind;
 ghost use Rattle.answers.specs.declared.asking.Problem.TheVariants as unanswered;
 ghost use Rattle.npmver.specs.Question.{IsPrinted, IsAsked, IsParser, IsStatus, NoParser, matching_command};
 ghost use Rattle.npmver.specs.Reported.{status_of, reported_answer, reported_problem, reported_whether};

@@ -1,6 +1,6 @@
 //! The text of a reference to a package, such as `jsr:@scope/name@1/mod.ts`.
 
-ghost use Rattle.std.specs.Prelude.{◌≡◌, ◌⊎◌, Err, IfErr, IfOk, None, Ok, Result, string_bytes};
+ghost use Rattle.std.specs.Prelude.{◌≡◌, ◌⊎◌, IfErr, IfOk, None, Ok, Result, string_bytes};
 ghost use Rattle.std.specs.Option.{option_copied};
 ghost use Rattle.serde_json.specs.View.{view};
 ghost use Rattle.deno_semver.specs.ReferenceOutcome.{IsReferenceAnswer, IsReferenceOutcome, IsReferenceRejection, ReferenceFault, unboxed};

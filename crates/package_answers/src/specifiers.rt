@@ -1,11 +1,10 @@
 //! The texts of references to one version of a package, such as `jsr:@scope/name@1.2.3/mod.ts`, and of dependencies, such as
 //! `npm:name@^1`.
 
-ghost use Rattle.std.specs.Prelude.{◌≡◌, IfErr, IfOk, None, Ok, Result, string_bytes};
+ghost use Rattle.std.specs.Prelude.{◌≡◌, IfErr, IfOk, Ok, Result, string_bytes};
 ghost use Rattle.std.specs.Option.{option_copied};
 ghost use Rattle.semver_base.specs.declared.failure.Rejection.{Rejection};
 ghost use Rattle.deno_semver.specs.NvReference.{IsNvReferenceAnswer, IsNvReferenceOutcome, IsNvReferenceRejection};
-ghost use Rattle.deno_semver.specs.declared.jsr.dependency.JsrDepPackageReq.{JsrDepPackageReq};
 ghost use Rattle.deno_semver.specs.declared.package.nv_reference.PackageNvReference.{PackageNvReference};
 ghost use Rattle.answers.specs.Asking.{IsAnswer, IsFailureAt};
 ghost use Rattle.package_answers.specs.Specifiers.{DependencyParts, IsDependencyFailure, IsVersionReferenceFailure, VersionReferenceParts};

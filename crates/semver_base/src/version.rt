@@ -1,6 +1,6 @@
 //! Versions: parsing, formatting and precedence.
 
-ghost use Rattle.std.specs.Prelude.{◌≡◌, ◌<◌, ◌≤◌, ◌==◌, ◌+◌, ◌∷◌, ◌++◌, ◌&&◌, ◌↔◌, ◌⊎◌, length, drop, refl, Result, Ok, Err, IfOk, IfErr, IfSome, [], None, Some, if◌then◌else◌, codes};
+ghost use Rattle.std.specs.Prelude.{◌≡◌, ◌<◌, ◌≤◌, ◌==◌, ◌+◌, ◌∷◌, ◌++◌, ◌&&◌, ◌↔◌, ◌⊎◌, length, drop, refl, Result, Ok, IfOk, IfErr, IfSome, [], None, Some, if◌then◌else◌, codes};
 ghost use Rattle.std.specs.Fmt.{DisplaysOnOk, decimal};
 ghost use Rattle.std.specs.Str.{trim};
 ghost use Rattle.std.specs.Cmp.{IsTotalOrder};

@@ -1,6 +1,6 @@
 //! The arguments of a call: grammars by their numbers, texts by their bytes, and why a call has no result.
 
-ghost use Rattle.std.specs.Prelude.{◌≡◌, ◌<◌, Err, IfOk, IsUtf8, map, MatchResult};
+ghost use Rattle.std.specs.Prelude.{◌≡◌, ◌<◌, IfOk, IsUtf8, map, MatchResult};
 ghost use Rattle.std.specs.Str.Lines.{lines};
 ghost use Rattle.answers.specs.declared.asking.Problem.TheVariants as unanswered;
 ghost use Rattle.semver_c.specs.Arguments.{call_fault, fault_place, grammar_number, pre_release_by, problem_message};

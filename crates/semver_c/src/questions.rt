@@ -8,7 +8,6 @@ ghost use Rattle.semver_req.specs.Requirement.{inner_text, tag_of};
 ghost use Rattle.answers.specs.Asking.{Is};
 ghost use Rattle.answers.specs.Filtering.{list_answer, list_matches};
 ghost use Rattle.answers.specs.Questions.{match_of};
-ghost use Rattle.answers.specs.declared.sorting.Order.TheVariants as sorting;
 ghost use Rattle.semver_c.specs.Arguments.{IsCallAnswer, IsOneCallAnswer, pre_release_by};
 ghost use Rattle.semver_c.specs.Codes.{match_code};
 ghost use Rattle.semver_c.specs.Held.{IsListBest, list_lines};

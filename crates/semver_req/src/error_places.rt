@@ -6,7 +6,6 @@ ghost use Rattle.std.specs.Prelude.{◌≡◌, ◌↔◌, ◌++◌, IfErr, IfOk,
 ghost use Rattle.semver_req.specs.Sizes.{Sized};
 ghost use Rattle.semver_req.specs.Viable.{HasPiece, HasRange, IsErrorPlace, IsPart, IsPieceOrCut, IsTextOf, IsViablePrefix, IsVersionText};
 ghost use Rattle.semver_req.specs.Pieces.{IsCutting};
-ghost use Rattle.semver_base.specs.declared.version.Version.{Version};
 
 pub mod causes;
 pub mod expected;

@@ -1,6 +1,6 @@
 //! Which of several versions is the best match, as `maxSatisfying` and `minSatisfying` of node-semver choose it.
 
-ghost use Rattle.std.specs.Prelude.{◌≡◌, ◌&&◌, None};
+ghost use Rattle.std.specs.Prelude.{◌≡◌, None};
 ghost use Rattle.semver_req.specs.Requirement.{inner_means, inner_means_with, tag_of};
 ghost use Rattle.semver_req.specs.Resolve.{IsBestMatch, IsOnlyMatch, higher, lower};
 ghost use Rattle.semver_req.specs.ResolveSteps.{nearer};

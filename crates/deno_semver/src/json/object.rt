@@ -1,9 +1,8 @@
 //! Values whose JSON is an object or an array.
 
 ghost use Rattle.std.specs.Prelude.{◌≡◌, IfOk, OnOk, map};
-ghost use Rattle.serde_json.specs.Data.{member, put as with_member};
+ghost use Rattle.serde_json.specs.Data.{put as with_member};
 ghost use Rattle.serde_json.specs.View.{members_view, view};
-ghost use Rattle.semver_base.specs.declared.range.VersionRange.{VersionRange};
 ghost use Rattle.deno_semver.specs.Json.{IsJsonOfBound, IsJsonOfRange, IsJsonOfRangeBound, IsJsonOfSet, IsJsonOfVersionReq, IsMemberOf, bound_json, range_bound_json, range_json, set_json, version_req_json};
 ghost use Rattle.deno_semver.specs.JsonAnswers.{IsJsonAnswer};
 

@@ -1,8 +1,7 @@
 //! References to packages: a name and version, and the path of a module in the package; and their URLs.
 
-ghost use Rattle.std.specs.Prelude.{◌≡◌, ◌↔◌, [], IfOk, IsTrue, Ok, Result, Some, refl};
+ghost use Rattle.std.specs.Prelude.{◌≡◌, ◌↔◌, [], IfOk, IsTrue, Some, refl};
 ghost use Rattle.deno_semver.specs.NvReference.{nv_error, nv_reference_text};
-ghost use Rattle.deno_semver.specs.declared.package.nv_reference.PackageNvReference.{PackageNvReference};
 
 use super::name_version::PackageNvParseError;
 use super::values::{PackageNv, PackageSubPath, copied_sub_path};

@@ -1,10 +1,9 @@
 //! References to packages: a package requirement and the path of a module in it.
 
-ghost use Rattle.std.specs.Prelude.{◌≡◌, IfOk, Ok, Result, Some, refl};
+ghost use Rattle.std.specs.Prelude.{◌≡◌, IfOk, Some, refl};
 ghost use Rattle.deno_semver.specs.ReferenceOutcome.{InvalidPathWithVersion, unboxed};
 ghost use Rattle.deno_semver.specs.ReferenceReading.{IsReferenceRead};
 ghost use Rattle.deno_semver.specs.ReferenceText.{reference_text, text_with_version};
-ghost use Rattle.deno_semver.specs.declared.package.reference.PackageReqReference.{PackageReqReference};
 
 use super::cut::parts_of;
 use super::errors::{

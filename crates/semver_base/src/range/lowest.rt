@@ -6,12 +6,12 @@
 //! each of these places on is a candidate, and the result is the lowest candidate that passes. Each candidate is compared
 //! with all ranges at most: the time grows with the square of their number.
 
-ghost use Rattle.std.specs.Prelude.{◌≡◌, ◌∷◌, ◌&&◌, ◌↔◌, [], IfOk, IfSome, IsTrue, is_some};
+ghost use Rattle.std.specs.Prelude.{◌≡◌, ◌∷◌, ◌↔◌, [], IfOk, IfSome, IsTrue, is_some};
 ghost use Rattle.std.specs.List.{list_any, AllByRecursion};
 ghost use Rattle.semver_base.specs.Candidates.{from_set, from_start, filtered, lower_passing, lowest_of, own_pre, passes, pre_from, with_pre, zero_identifier, zero_pre};
 ghost use Rattle.semver_base.specs.Containment.{AreEquivalent, IsWithin, ReportsEquivalent, ReportsWithin};
 ghost use Rattle.semver_base.specs.LowestVersion.{HasNoBuild, IsLowestPassing, DecidesSome, all_mean_with, set_means_alone_with, sets_mean_with};
-ghost use Rattle.semver_base.specs.Meaning.{is_pre_match, range_means_with, release, set_means_with};
+ghost use Rattle.semver_base.specs.Meaning.{is_pre_match, range_means_with, set_means_with};
 ghost use Rattle.semver_base.specs.NormalText.{AreWritableRanges, IsWritableRange};
 ghost use Rattle.semver_base.specs.VersionText.{ReadsBack};
 

@@ -6,7 +6,6 @@ ghost use Rattle.semver_base.specs.Grammar.{answer_of};
 ghost use Rattle.semver_base.specs.PartialTable.{IsBoundRejection, all_fit};
 ghost use Rattle.semver_req.specs.Comparators.{IsComparator};
 ghost use Rattle.semver_req.specs.Written.{IsOperatorCut, IsNpmFront, IsNonPrimitive, ReadsComparator, comparator_of, with_operator};
-ghost use Rattle.semver_req.specs.declared.common.values.Flavour.TheVariants.{Normal, Npm};
 
 use crate::common::values::{Flavour, PrimitiveKind};
 use crate::common::{after_some_whitespace, bare_partial, partial_front, primitive_kind_front};

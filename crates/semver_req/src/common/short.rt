@@ -10,7 +10,6 @@ ghost use Rattle.semver_base.specs.PartialTable.{IsLineRange, of_short, release_
 ghost use Rattle.semver_req.specs.Pieces.{IsCutting};
 ghost use Rattle.semver_req.specs.ShortComparators.{IsAfterGap, IsShortPartial, IsShortPiece, IsShortComparator, IsShortStart, IsStarOrQualified, IsWildcardFront};
 ghost use Rattle.semver_req.specs.Written.{comparator_of};
-ghost use Rattle.semver_req.specs.declared.common.values.Flavour.TheVariants.{Normal, Npm};
 
 use crate::common::comparator::{Operator, split_operator};
 use crate::common::values::Flavour;

@@ -1,7 +1,7 @@
 //! What is wrong with an invalid alternative, and where.
 
 ghost use Rattle.semver_base.specs.declared.partial.Partial.{Partial};
-ghost use Rattle.std.specs.Prelude.{◌≡◌, IfErr, IfOk, None, Option, Some, ℕ};
+ghost use Rattle.std.specs.Prelude.{◌≡◌, IfErr, IfOk, None, Option, ℕ};
 ghost use Rattle.semver_base.specs.declared.failure.Rejection.TheVariants as rejection;
 ghost use Rattle.semver_req.specs.Partials.{sized_partial};
 ghost use Rattle.semver_req.specs.Written.{comparator_of};

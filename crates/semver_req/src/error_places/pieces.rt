@@ -1,6 +1,6 @@
 //! The invalid alternatives of a text.
 
-ghost use Rattle.std.specs.Prelude.{◌≡◌, ◌++◌, ◌+◌, ◌<◌, ◌^◌, ◌∷◌, [], IfErr, IfOk, List, None, OnOk, length, true};
+ghost use Rattle.std.specs.Prelude.{◌≡◌, ◌++◌, ◌+◌, ◌<◌, ◌^◌, ◌∷◌, [], IfErr, IfOk, List, None, OnOk, length};
 ghost use Rattle.semver_req.specs.Causes.{IsRejected};
 ghost use Rattle.semver_req.specs.InvalidPieces.{AreErrorsOf, AreInvalidBehind, AreInvalidPieces, IsErrorAt, IsErrorOf};
 ghost use Rattle.semver_req.specs.declared.error_places.pieces.InvalidPiece.{InvalidPiece};

@@ -3,7 +3,6 @@
 ghost use Rattle.std.specs.Prelude.{◌≡◌, ◌++◌, ◌∷◌, [], IfErr, IfOk, List, MatchOption, None, OnOk, ℕ};
 ghost use Rattle.semver_base.specs.Grammar.{IsSeen};
 ghost use Rattle.semver_base.specs.declared.failure.Rejection.TheVariants.{BoundTooLarge};
-ghost use Rattle.semver_base.specs.declared.lexical.values.Measured.TheVariants.{Fits};
 ghost use Rattle.semver_base.specs.declared.partial.Partial.{Partial};
 ghost use Rattle.semver_req.specs.Partials.{sized_partial};
 ghost use Rattle.semver_req.specs.PieceReading.{IsPieceRead, joined, retained_of};
