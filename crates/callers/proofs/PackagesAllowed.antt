@@ -7,8 +7,8 @@ use Rattle.callers.specs.declared.packages.Unanswered.TheVariants as why
 use Rattle.semver_base.specs.Comparators.{Comparator}
 use Rattle.semver_base.specs.VersionGrammar.{IsVersionAnswer, IsVersionOutcome, IsVersionRejection}
 use Rattle.semver_base.specs.declared.failure.Rejection.{Rejection}
+use Rattle.semver_base.specs.Failure.{source_of}
 use Rattle.semver_base.specs.declared.failure.ParserError.{ParserError}
-use Rattle.semver_base.specs.declared.version.NpmVersions.{NpmVersions}
 use Rattle.semver_base.specs.declared.range.PreRelease.TheVariants.{Restricted}
 use Rattle.semver_base.specs.declared.version.Version.{Version}
 use Rattle.semver_req.specs.RetainedSet.{RetainedSetsMeanTheirTrees, retained}
@@ -44,8 +44,8 @@ module _ (f : Flavour) (text : List ℕ) where
     }
 
     -- the package is valid, and the version isn't
-    pub version_rejected : (req : PackageReq) → IsPackageOutcome f text (Ok req) → (e : ParserError NpmVersions) → IsVersionRejection (trim version) e.source
-        → ((o : Result Version Rejection) → IsVersionOutcome (trim version) o → IsVersionAnswer (λ (error : ParserError NpmVersions). error.source) (trim version) o (Err e))
+    pub version_rejected : (req : PackageReq) → IsPackageOutcome f text (Ok req) → (e : ParserError 1) → IsVersionRejection (trim version) e.source
+        → ((o : Result Version Rejection) → IsVersionOutcome (trim version) o → IsVersionAnswer source_of (trim version) o (Err e))
         → AllowsPackage f text version (Err (why.Version e))
     version_rejected req is e rejection versions = record {
       reported = tt;

@@ -9,8 +9,8 @@ use Rattle.callers.specs.declared.packages.UnansweredReference.TheVariants as wh
 use Rattle.semver_base.specs.Comparators.{Comparator}
 use Rattle.semver_base.specs.VersionGrammar.{IsVersionAnswer, IsVersionOutcome, IsVersionRejection}
 use Rattle.semver_base.specs.declared.failure.Rejection.{Rejection}
+use Rattle.semver_base.specs.Failure.{source_of}
 use Rattle.semver_base.specs.declared.failure.ParserError.{ParserError}
-use Rattle.semver_base.specs.declared.version.NpmVersions.{NpmVersions}
 use Rattle.semver_base.specs.declared.range.PreRelease.TheVariants.{Restricted}
 use Rattle.semver_base.specs.declared.version.Version.{Version}
 use Rattle.semver_req.specs.RetainedSet.{RetainedSetsMeanTheirTrees, retained}
@@ -81,8 +81,8 @@ module _ (kind : PackageKind) (text : List ℕ) where
     -- the reference is valid, and the version isn't
     pub version_rejected : (reference : PackageReqReference) → IsReferenceOutcome kind text (Ok reference)
         → ((o : Result PackageReqReference ReferenceFault) → IsReferenceOutcome kind text o → IsReferenceAnswer kind text o (Ok reference))
-        → (e : ParserError NpmVersions) → IsVersionRejection (trim version) e.source
-        → ((o : Result Version Rejection) → IsVersionOutcome (trim version) o → IsVersionAnswer (λ (error : ParserError NpmVersions). error.source) (trim version) o (Err e))
+        → (e : ParserError 1) → IsVersionRejection (trim version) e.source
+        → ((o : Result Version Rejection) → IsVersionOutcome (trim version) o → IsVersionAnswer source_of (trim version) o (Err e))
         → AllowsReference kind text version (Err (why.Version e))
     version_rejected reference is answers e rejection versions = record {
       reported = tt;

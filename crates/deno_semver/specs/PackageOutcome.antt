@@ -58,8 +58,8 @@ pub data IsPackageOutcome (f : Flavour) (text : List ℕ) : Result PackageReq Pa
 -- ---- results
 
 -- a parser's error with this failure
-abbrev pub failed : {P : Type 0} → Failure → ParserError P
-failed failure = record { source = failure; parsed = record {} }
+abbrev pub failed : {parser : ℕ} → Failure → ParserError parser
+failed failure = record { source = failure }
 
 -- the error of that grammar
 abbrev pub rejected_by : Flavour → Failure → PackageReqPartsParseError

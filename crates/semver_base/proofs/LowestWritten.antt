@@ -126,11 +126,11 @@ pre_from_writable : (k : VersionBoundKind) (v : Version) → IsWritable v → Is
 pre_from_writable kind.Inclusive v h = with_pre_writable v v.pre h h.pre
 pre_from_writable kind.Exclusive v h = with_pre_writable v _ h (appended_identifiers v.pre h.pre)
 
-own_pre_writable : (b : RangeBound) → IsWritableBound b → IfSome (own_pre b) IsWritable
+pub own_pre_writable : (b : RangeBound) → IsWritableBound b → IfSome (own_pre b) IsWritable
 own_pre_writable bound.Unbounded h = tt
 own_pre_writable (bound.Version b) h = chosen IsWritable (is_release b.version) None _ (λ _. tt) (λ _. pre_from_writable b.kind b.version h)
 
-zero_pre_writable : (b : RangeBound) → IsWritableBound b → IfSome (zero_pre b) IsWritable
+pub zero_pre_writable : (b : RangeBound) → IsWritableBound b → IfSome (zero_pre b) IsWritable
 zero_pre_writable bound.Unbounded h = tt
 zero_pre_writable (bound.Version b) h = chosen IsWritable (is_release b.version) None _ (λ _. tt) (λ _. zero_writable b.version h)
 

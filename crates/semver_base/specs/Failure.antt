@@ -1,5 +1,6 @@
 -- Messages and snippets of failures.
 use Rattle.std.specs.Prelude.{ℕ, List, Option, Some, None, codes}
+use Rattle.semver_base.specs.declared.failure.ParserError.{ParserError}
 use Rattle.semver_base.specs.declared.failure.Rejection.{Rejection}
 use Rattle.semver_base.specs.declared.failure.Rejection.TheVariants.{UnexpectedCharacter, EmptyConstraint, MissingMinor, MissingPatch, NumberTooLarge, BoundTooLarge}
 
@@ -23,3 +24,7 @@ rejection_message MissingPatch =
     codes "Missing patch version. Versions must be in the form MAJOR.MINOR.PATCH (ex. 1.0.0)."
 rejection_message NumberTooLarge = codes "Number is too large."
 rejection_message BoundTooLarge = codes "Version bound is too large."
+
+-- what is wrong, of the error of any parser
+abbrev pub source_of : {parser : ℕ} → ParserError parser → Option (List ℕ × Option (List ℕ))
+source_of error = error.source

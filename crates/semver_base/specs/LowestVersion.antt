@@ -42,6 +42,10 @@ abbrev pub IsOnlyLowest : (Version → Bool) → Option Version → Type 0
 IsOnlyLowest test lowest =
     (other : Option Version) → IsLowestPassing test other → IfSome other HasNoBuild → IfSome other ReadsBack → other ≡ lowest
 
+-- some readable version passes the test
+abbrev pub PassesSome : (Version → Bool) → Type 0
+PassesSome test = (v : Version) × IsReadable v × (test v ≡ true)
+
 -- true says that some version passes the test, and false that no readable one does
 abbrev pub DecidesSome : (Version → Bool) → Bool → Type 0
 DecidesSome test true = (v : Version) × (test v ≡ true)

@@ -103,7 +103,7 @@ range_means range v = alternative_means (range ∷ []) v
 abbrev pub set_means : List VersionRange → Version → Bool
 set_means ranges v = tree_means (alternatives ranges) v
 
--- whether the version is a pre-release of the bound's three numbers that the range matches by npm's rule
+-- whether the bound is a pre-release, and the version one of its three numbers that the range matches by npm's rule
 abbrev pub is_pre_match : VersionRange → RangeBound → Version → Bool
 is_pre_match range b v = (not (is_release v) && has_pre_of b v) && range_means range v
 

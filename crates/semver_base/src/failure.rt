@@ -1,6 +1,6 @@
 //! Why a text or a bound is invalid.
 
-ghost use Rattle.std.specs.Prelude.{◌≡◌, ◌↔◌, ◌⊎◌, IsTrue, IfOk, List, Some, None, ℕ};
+ghost use Rattle.std.specs.Prelude.{◌≡◌, ◌↔◌, ◌⊎◌, IsTrue, IfOk, Some, None, codes};
 ghost use Rattle.std.specs.Option.{option_copied};
 ghost use Rattle.semver_base.specs.Failure.{message_of, rejection_message, snippet_of};
 
@@ -8,7 +8,7 @@ use crate::string::SmallStackString;
 use std::alloc::{AllocError, Global};
 use std::error::Error;
 use std::fmt;
-use std::marker::{Model, PhantomData};
+use std::marker::Model;
 
 /// Why a version, a version requirement or a bound is rejected, other than out of memory.
 #[derive(Clone, Copy, Debug, PartialEq, Eq)]
@@ -177,28 +177,27 @@ impl fmt::Display for ParseFailure {
     }
 }
 
-/// What a parser parses, as a type.
-pub trait Parsed {
-    /// How an error of the parser is displayed.
-    ghost title: { List ℕ };
+/// The parser of versions.
+pub const VERSIONS: usize = 0;
+/// npm's parser of versions.
+pub const NPM_VERSIONS: usize = 1;
+/// The parser of requirements of the normalized grammar.
+pub const NORMALIZED_REQUIREMENTS: usize = 2;
+/// The parser of requirements of npm's grammar.
+pub const NPM_REQUIREMENTS: usize = 3;
+/// The parser of requirements of package specifiers.
+pub const SPECIFIER_REQUIREMENTS: usize = 4;
 
-    /// How an error of the parser is displayed.
-    fn title() -> &'static str
-        ensures { result.now ≡ title };
-}
-
-/// Why a text failed to parse, which may be out of memory; `P` is what the parser parses.
+/// Why a text failed to parse, which may be out of memory; `PARSER` is the parser that reports it, one of those above.
 ///
-/// Two errors are equal if their sources are. An error is displayed as the title of what was parsed; the source says what is wrong.
-#[derive(Drop)]
-#[derive_where(Debug, PartialEq, Eq)]
-pub struct ParserError<P> {
+/// Two errors are equal if their sources are. An error is displayed as a line that says what the parser parses; the source says
+/// what is wrong.
+#[derive(Debug, PartialEq, Eq, Drop)]
+pub struct ParserError<const PARSER: usize> {
     pub source: ParseFailure,
-    #[derive_where(skip)]
-    pub parsed: PhantomData<P>,
 }
 
-impl<P> ParserError<P> {
+impl<const PARSER: usize> ParserError<PARSER> {
     /// The error message; `Out of memory.` if out of memory.
     pub fn message(&self) -> &str
         ensures { result.now ≡ message_of self.now.source }
@@ -219,47 +218,82 @@ impl<P> ParserError<P> {
     {
         Ok(ParserError {
             source: self.source.copy()?,
-            parsed: PhantomData,
         })
     }
 }
 
-impl<P> From<ParseFailure> for ParserError<P> {
+impl<const PARSER: usize> From<ParseFailure> for ParserError<PARSER> {
     ghost from_gives = { λ failure error. error.source ≡ failure };
 
-    fn from(source: ParseFailure) -> ParserError<P> {
-        ParserError {
-            source,
-            parsed: PhantomData,
-        }
+    fn from(source: ParseFailure) -> ParserError<PARSER> {
+        ParserError { source }
     }
 }
 
-impl<P> From<AllocError> for ParserError<P> {
+impl<const PARSER: usize> From<AllocError> for ParserError<PARSER> {
     ghost from_gives = { λ _ error. error.source ≡ None };
 
-    fn from(_error: AllocError) -> ParserError<P> {
+    fn from(_error: AllocError) -> ParserError<PARSER> {
         ParserError {
             source: ParseFailure::memory(),
-            parsed: PhantomData,
         }
     }
 }
 
-impl<P> From<ParserError<P>> for ParseFailure {
+impl<const PARSER: usize> From<ParserError<PARSER>> for ParseFailure {
     ghost from_gives = { λ error failure. failure ≡ error.source };
 
-    fn from(error: ParserError<P>) -> ParseFailure {
+    fn from(error: ParserError<PARSER>) -> ParseFailure {
         error.source
     }
 }
 
-impl<P: Parsed> fmt::Display for ParserError<P> {
-    ghost output = { λ _. Some P.title };
+impl fmt::Display for ParserError<VERSIONS> {
+    ghost output = { λ _. Some (codes "Invalid version") };
 
     fn fmt<W: fmt::Write>(&self, f: &mut fmt::Formatter<W>) -> fmt::Result {
-        f.write_str(P::title())
+        f.write_str("Invalid version")
     }
 }
 
-impl<P: Parsed> Error for ParserError<P> {}
+impl fmt::Display for ParserError<NPM_VERSIONS> {
+    ghost output = { λ _. Some (codes "Invalid npm version") };
+
+    fn fmt<W: fmt::Write>(&self, f: &mut fmt::Formatter<W>) -> fmt::Result {
+        f.write_str("Invalid npm version")
+    }
+}
+
+impl fmt::Display for ParserError<NORMALIZED_REQUIREMENTS> {
+    ghost output = { λ _. Some (codes "Invalid normalized version requirement") };
+
+    fn fmt<W: fmt::Write>(&self, f: &mut fmt::Formatter<W>) -> fmt::Result {
+        f.write_str("Invalid normalized version requirement")
+    }
+}
+
+impl fmt::Display for ParserError<NPM_REQUIREMENTS> {
+    ghost output = { λ _. Some (codes "Invalid version requirement") };
+
+    fn fmt<W: fmt::Write>(&self, f: &mut fmt::Formatter<W>) -> fmt::Result {
+        f.write_str("Invalid version requirement")
+    }
+}
+
+impl fmt::Display for ParserError<SPECIFIER_REQUIREMENTS> {
+    ghost output = { λ _. Some (codes "Invalid specifier version requirement") };
+
+    fn fmt<W: fmt::Write>(&self, f: &mut fmt::Formatter<W>) -> fmt::Result {
+        f.write_str("Invalid specifier version requirement")
+    }
+}
+
+impl Error for ParserError<VERSIONS> {}
+
+impl Error for ParserError<NPM_VERSIONS> {}
+
+impl Error for ParserError<NORMALIZED_REQUIREMENTS> {}
+
+impl Error for ParserError<NPM_REQUIREMENTS> {}
+
+impl Error for ParserError<SPECIFIER_REQUIREMENTS> {}

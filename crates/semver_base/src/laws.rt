@@ -57,7 +57,7 @@ impl Same for ParseFailure {
     ghost decides = { Prim.search rules };
 }
 
-impl<P> Same for ParserError<P> {
+impl<const PARSER: usize> Same for ParserError<PARSER> {
     ghost decides = { Prim.search rules };
 }
 

@@ -1,11 +1,12 @@
 //! Versions: parsing, formatting and precedence.
 
-ghost use Rattle.std.specs.Prelude.{◌≡◌, ◌<◌, ◌≤◌, ◌==◌, ◌+◌, ◌∷◌, ◌++◌, ◌&&◌, ◌↔◌, ◌⊎◌, length, drop, refl, Result, Ok, IfOk, IfErr, IfSome, [], None, Some, if◌then◌else◌, codes};
+ghost use Rattle.std.specs.Prelude.{◌≡◌, ◌<◌, ◌≤◌, ◌==◌, ◌+◌, ◌∷◌, ◌++◌, ◌&&◌, ◌↔◌, ◌⊎◌, length, drop, refl, Result, Ok, IfOk, IfErr, IfSome, [], None, Some, if◌then◌else◌};
 ghost use Rattle.std.specs.Fmt.{DisplaysOnOk, decimal};
 ghost use Rattle.std.specs.Str.{trim};
 ghost use Rattle.std.specs.Cmp.{IsTotalOrder};
 ghost use Rattle.std.specs.Ordering.{as_partial_cmp};
 ghost use Rattle.semver_base.specs.Characters.{dot};
+ghost use Rattle.semver_base.specs.Failure.{source_of};
 ghost use Rattle.semver_base.specs.declared.failure.Rejection.{Rejection};
 ghost use Rattle.semver_base.specs.VersionGrammar.{IsVersionAnswer, IsVersionOutcome, IsVersionRejection, version_failure};
 ghost use Rattle.semver_base.specs.VersionParserSteps.{IsFittingNumber, IsNumberRejection, IsReadVersion};
@@ -15,7 +16,7 @@ ghost use Rattle.semver_base.specs.Precedence.{number_of, pre_cmp, precedence_cm
 ghost use Rattle.semver_base.specs.PrecedenceLaws.{version_po, version_ties, version_total, SamePrecedence};
 ghost use Rattle.semver_base.specs.VersionText.{ReadsBack, prefixed, version_text};
 
-use crate::failure::{ParseFailure, Parsed, ParserError, Rejection};
+use crate::failure::{NPM_VERSIONS, ParseFailure, ParserError, Rejection, VERSIONS};
 use crate::lexical;
 use crate::lexical::values::{Measured, Strictness};
 use crate::short::{Numbers, split_numbers};
@@ -24,39 +25,16 @@ use itoa::write_digits;
 use std::alloc::{AllocError, Global};
 use std::cmp::Ordering;
 use std::fmt;
-use std::marker::PhantomData;
 use std::str::from_utf8_unchecked;
 
 /// An identifier of a pre-release or a build.
 pub type VersionPreOrBuild = SmallStackString;
 
-/// Versions, as what a parser parses.
-pub struct Versions;
-
-impl Parsed for Versions {
-    ghost title = { codes "Invalid version" };
-
-    fn title() -> &'static str {
-        "Invalid version"
-    }
-}
-
 /// Why a text isn't a version, which may be out of memory.
-pub type VersionParseError = ParserError<Versions>;
-
-/// Versions as npm parses them.
-pub struct NpmVersions;
-
-impl Parsed for NpmVersions {
-    ghost title = { codes "Invalid npm version" };
-
-    fn title() -> &'static str {
-        "Invalid npm version"
-    }
-}
+pub type VersionParseError = ParserError<VERSIONS>;
 
 /// Why a text isn't a version of npm's, which may be out of memory.
-pub type NpmVersionParseError = ParserError<NpmVersions>;
+pub type NpmVersionParseError = ParserError<NPM_VERSIONS>;
 
 /// A SemVer 2.0.0 version: three numbers, and the identifiers of its pre-release and its build, either of which may be empty.
 ///
@@ -101,7 +79,7 @@ impl Version {
         ensures rejected { IfErr result (λ error. IsVersionRejection (trim text.now) error.source) }
         ensures answer { (outcome : Result Version Rejection)
             → IsVersionOutcome (trim text.now) outcome
-            → IsVersionAnswer (λ (error : ParserError Versions). error.source) (trim text.now) outcome result }
+            → IsVersionAnswer source_of (trim text.now) outcome result }
     {
         let read = match split_numbers(text) {
             Some((numbers, rest)) if rest.is_empty() => {
@@ -119,10 +97,7 @@ impl Version {
         };
         match read {
             Ok(version) => Ok(version),
-            Err(source) => Err(ParserError {
-                source,
-                parsed: PhantomData,
-            }),
+            Err(source) => Err(ParserError { source }),
         }
     }
 
@@ -133,13 +108,12 @@ impl Version {
         ensures rejected { IfErr result (λ error. IsVersionRejection (trim text.now) error.source) }
         ensures answer { (outcome : Result Version Rejection)
             → IsVersionOutcome (trim text.now) outcome
-            → IsVersionAnswer (λ (error : ParserError NpmVersions). error.source) (trim text.now) outcome result }
+            → IsVersionAnswer source_of (trim text.now) outcome result }
     {
         match Version::parse_standard(alloc, text) {
             Ok(version) => Ok(version),
             Err(error) => Err(ParserError {
                 source: error.source,
-                parsed: PhantomData,
             }),
         }
     }

@@ -1,12 +1,11 @@
 //! npm's parsers of requirements and versions, and its rule for tags.
 
-ghost use Rattle.std.specs.Prelude.{IfErr, IfOk, Ok, Result, codes};
+ghost use Rattle.std.specs.Prelude.{IfErr, IfOk, Ok, Result};
 ghost use Rattle.std.specs.Str.{trim};
 ghost use Rattle.semver_base.specs.VersionGrammar.{IsVersionAnswer, IsVersionOutcome, IsVersionRejection};
 ghost use Rattle.semver_base.specs.VersionText.{ReadsBack};
-ghost use Rattle.semver_base.specs.declared.failure.ParserError.{ParserError};
+ghost use Rattle.semver_base.specs.Failure.{source_of};
 ghost use Rattle.semver_base.specs.declared.failure.Rejection.{Rejection};
-ghost use Rattle.semver_base.specs.declared.version.NpmVersions.{NpmVersions};
 ghost use Rattle.semver_req.specs.PieceReading.{IsCutRejection};
 ghost use Rattle.semver_req.specs.Parsers.{IsParserAnswer};
 ghost use Rattle.semver_req.specs.declared.common.values.Flavour.TheVariants.{Npm};
@@ -16,25 +15,14 @@ use crate::common::values::Flavour;
 use crate::range_set_or_tag::RangeSetOrTag;
 pub use crate::range_set_or_tag::is_valid_npm_tag;
 use crate::req::VersionReq;
-use semver_base::failure::{Parsed, ParserError};
+use semver_base::failure::{NPM_REQUIREMENTS, ParserError};
 use semver_base::string::SmallStackString;
 pub use semver_base::version::NpmVersionParseError;
 use semver_base::version::Version;
 use std::alloc::Global;
 
-/// Requirements of npm's grammar, as what a parser parses.
-pub struct NpmRequirements;
-
-impl Parsed for NpmRequirements {
-    ghost title = { codes "Invalid version requirement" };
-
-    fn title() -> &'static str {
-        "Invalid version requirement"
-    }
-}
-
 /// Why a text isn't a requirement of npm's grammar, which may be out of memory.
-pub type NpmVersionReqParseError = ParserError<NpmRequirements>;
+pub type NpmVersionReqParseError = ParserError<NPM_REQUIREMENTS>;
 
 /// Parses a requirement by npm's range grammar (node-semver, "Range Grammar", with the separators `&&` and `,` and the
 /// ignored operators that npm accepts): alternatives with `||` between them, or a tag.
@@ -77,7 +65,7 @@ pub fn parse_npm_version(alloc: Global, text: &str) -> Result<Version, NpmVersio
     ensures reads_back { IfOk result ReadsBack }
     ensures rejected { IfErr result (λ error. IsVersionRejection (trim text.now) error.source) }
     ensures answer { (outcome : Result Version Rejection) → IsVersionOutcome (trim text.now) outcome
-        → IsVersionAnswer (λ (error : ParserError NpmVersions). error.source) (trim text.now) outcome result }
+        → IsVersionAnswer source_of (trim text.now) outcome result }
 {
     Version::parse_from_npm(alloc, text)
 }

@@ -1,6 +1,6 @@
 //! Version requirements.
 
-ghost use Rattle.std.specs.Prelude.{◌≡◌, IfErr, IfOk, None, Some, codes, string_bytes};
+ghost use Rattle.std.specs.Prelude.{◌≡◌, IfErr, IfOk, None, Some, string_bytes};
 ghost use Rattle.std.specs.Bool.{OnFalse};
 ghost use Rattle.std.specs.Option.{option_copied};
 ghost use Rattle.semver_base.specs.declared.range.PreRelease.TheVariants.{Restricted};
@@ -16,7 +16,7 @@ mod lowest;
 use crate::common::short::short_range;
 use crate::common::values::Flavour;
 use crate::range_set_or_tag::RangeSetOrTag;
-use semver_base::failure::{Parsed, ParserError};
+use semver_base::failure::{NORMALIZED_REQUIREMENTS, ParserError};
 use semver_base::range::{PreRelease, RangeBound, VersionRange, VersionRangeSet};
 use semver_base::string::{CowVec, SmallStackString, displayed};
 use semver_base::version::Version;
@@ -54,19 +54,8 @@ impl Drop for VersionReq {
     }
 }
 
-/// Requirements of the normalized grammar, as what a parser parses.
-pub struct NormalizedRequirements;
-
-impl Parsed for NormalizedRequirements {
-    ghost title = { codes "Invalid normalized version requirement" };
-
-    fn title() -> &'static str {
-        "Invalid normalized version requirement"
-    }
-}
-
 /// Why a text isn't a requirement of the normalized grammar, which may be out of memory.
-pub type VersionReqNormalizedParseError = ParserError<NormalizedRequirements>;
+pub type VersionReqNormalizedParseError = ParserError<NORMALIZED_REQUIREMENTS>;
 
 impl VersionReq {
     /// Creates a requirement from its text and its ranges or tag.
@@ -143,6 +132,7 @@ impl VersionReq {
 
     /// Whether the version matches some range of the requirement, which must not be a tag: by npm's rule about pre-releases,
     /// or with all pre-releases between the bounds.
+    #[inline(always)]
     pub fn matches_with(&self, version: &Version, pre_release: PreRelease) -> bool
         requires { tag_of self.now.inner ≡ None }
         ensures { result ≡ inner_means_with pre_release self.now.inner version.now }
@@ -155,6 +145,7 @@ impl VersionReq {
 
     /// Whether the version matches some range of the requirement, which must not be a tag. Same as
     /// [`VersionReq::matches_with`] with [`PreRelease::Restricted`].
+    #[inline(always)]
     pub fn matches(&self, version: &Version) -> bool
         requires { tag_of self.now.inner ≡ None }
         ensures value { result ≡ inner_means self.now.inner version.now }

@@ -1,6 +1,6 @@
 //! The strict parser, for the requirements in package specifiers.
 
-ghost use Rattle.std.specs.Prelude.{◌≡◌, ◌⊎◌, IfErr, IfOk, None, codes, true};
+ghost use Rattle.std.specs.Prelude.{◌≡◌, ◌⊎◌, IfErr, IfOk, None, true};
 ghost use Rattle.semver_base.specs.Lexical.{IsWhitespace};
 ghost use Rattle.semver_req.specs.Parsers.{IsParserAnswer, IsReading};
 ghost use Rattle.semver_req.specs.SpecifierRejections.{IsNoTag, IsSpecifierRejection, empty_constraint};
@@ -12,26 +12,15 @@ use crate::common::short::{short_range, star_or_qualified};
 use crate::common::values::Flavour;
 use crate::range_set_or_tag::{RangeSetOrTag, is_valid_npm_tag};
 use crate::req::VersionReq;
-use semver_base::failure::{ParseFailure, Parsed, ParserError, Rejection};
+use semver_base::failure::{ParseFailure, ParserError, Rejection, SPECIFIER_REQUIREMENTS};
 use semver_base::lexical::is_all_whitespace;
 use semver_base::lexical::values::Measured;
 use semver_base::range::{VersionRange, VersionRangeSet};
 use semver_base::string::{CowVec, SmallStackString};
 use std::alloc::{AllocError, Global};
 
-/// Requirements of package specifiers, as what a parser parses.
-pub struct SpecifierRequirements;
-
-impl Parsed for SpecifierRequirements {
-    ghost title = { codes "Invalid specifier version requirement" };
-
-    fn title() -> &'static str {
-        "Invalid specifier version requirement"
-    }
-}
-
 /// Why a text isn't the requirement of a package specifier, which may be out of memory.
-pub type VersionReqSpecifierParseError = ParserError<SpecifierRequirements>;
+pub type VersionReqSpecifierParseError = ParserError<SPECIFIER_REQUIREMENTS>;
 
 /// What a text is as one comparator without a comparison operator.
 #[derive(Drop)]

@@ -10,9 +10,9 @@ ghost use Rattle.std.specs.Prelude.{◌≡◌, ◌∷◌, ◌↔◌, [], IfOk, I
 ghost use Rattle.std.specs.List.{list_any, AllByRecursion};
 ghost use Rattle.semver_base.specs.Candidates.{from_set, from_start, filtered, lower_passing, lowest_of, own_pre, passes, pre_from, with_pre, zero_identifier, zero_pre};
 ghost use Rattle.semver_base.specs.Containment.{AreEquivalent, IsWithin, ReportsEquivalent, ReportsWithin};
-ghost use Rattle.semver_base.specs.LowestVersion.{HasNoBuild, IsLowestPassing, DecidesSome, all_mean_with, set_means_alone_with, sets_mean_with};
+ghost use Rattle.semver_base.specs.LowestVersion.{HasNoBuild, IsLowestPassing, DecidesSome, PassesSome, all_mean_with, set_means_alone_with, sets_mean_with};
 ghost use Rattle.semver_base.specs.Meaning.{is_pre_match, range_means_with, set_means_with};
-ghost use Rattle.semver_base.specs.NormalText.{AreWritableRanges, IsWritableRange};
+ghost use Rattle.semver_base.specs.NormalText.{AreWritableRanges, IsWritableBound, IsWritableRange};
 ghost use Rattle.semver_base.specs.VersionText.{ReadsBack};
 
 use crate::range::{
@@ -274,12 +274,16 @@ impl VersionRange {
         self.satisfies_with(&version, PreRelease::Restricted)
     }
 
-    /// Whether some pre-release of the bound's three numbers matches, by npm's rule about pre-releases. `>=1.2.0 <2.0.0-0`
-    /// matches none of the end's numbers, since none is below `2.0.0-0`.
+    /// Whether the bound is a pre-release, and some pre-release of its three numbers matches, by npm's rule about
+    /// pre-releases. `>=1.2.0 <2.0.0-0` matches none of the end's numbers, since none is below `2.0.0-0`.
     ///
-    /// True means that some version is such a pre-release; false, that no text parses to one. Fails only out of memory.
+    /// True says that some version is such a pre-release; false, that no text parses to one. If the texts of the bounds parse
+    /// back, so does that version's, and the result is exact. Fails only out of memory.
     pub fn matches_pre_of(&self, alloc: Global, bound: &RangeBound) -> Result<bool, AllocError>
-        ensures { IfOk result (DecidesSome (is_pre_match self.now bound.now)) }
+        ensures value { IfOk result (DecidesSome (is_pre_match self.now bound.now)) }
+        ensures exact { IfOk result
+            (λ reported. IsWritableBound self.now.start → IsWritableBound bound.now
+            → (IsTrue reported ↔ PassesSome (is_pre_match self.now bound.now))) }
     {
         let lowest = self.is_pre_match(bound, bound.zero_pre(alloc)?);
         let own = self.is_pre_match(bound, self.start.own_pre(alloc)?);

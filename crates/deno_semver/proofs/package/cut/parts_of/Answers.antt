@@ -1,4 +1,4 @@
-use Rattle.std.proofs.Common.{◌∙◌, true, false, sym, inr, refl, rules, option_copied}
+use Rattle.std.proofs.Common.{◌∙◌, sym, inr, refl, rules, option_copied}
 use Rattle.deno_semver.proofs.PackageText.{bare_cut, front_boundary, scope_alone, scoped_cut}
 use Rattle.deno_semver.proofs.Runs.{none_left, some_left}
 use Rattle.deno_semver.proofs.package.cut.parts_of.Goals as goal

@@ -3,8 +3,7 @@ use Rattle.std.specs.Str.{trim}
 use Rattle.std.proofs.lemmas.Bool.Decides.{nat_tests}
 use Rattle.std.proofs.lemmas.List.{nil_from_length}
 use Rattle.semver_base.proofs.ShortTexts.{short_version}
-use Rattle.semver_base.specs.declared.failure.ParserError.{ParserError}
-use Rattle.semver_base.specs.declared.version.Versions.{Versions}
+use Rattle.semver_base.specs.Failure.{source_of}
 use Rattle.semver_base.proofs.VersionReading.{read_answer, read_outcome, rejected_answer}
 use Rattle.semver_base.specs.VersionGrammar.{IsVersionRejection}
 use Rattle.semver_base.specs.VersionParserSteps.{IsReadVersion}
@@ -31,7 +30,7 @@ returns-in-Ok-clause-answer c =
     let read : IfOk c.match-split_numbers.read (IsReadVersion (trim c.args.text.now)) = elim c.match-split_numbers.branch
     [ in-Some-2 w ↦ rw w.read-is w.read_on-read.ensures.read | in-None w ↦ rw w.read-is (rw w.trim.ensures.trim at w.read-read.ensures.read) ] in
     let version : IsReadVersion (trim c.args.text.now) c.in-Ok.version = rw c.in-Ok.is at read in
-    read_answer (λ (error : ParserError Versions). error.source) (trim c.args.text.now) c.in-Ok.version version
+    read_answer source_of (trim c.args.text.now) c.in-Ok.version version
 
 pub returns-in-Err-clause-rejected : goal.returns-in-Err-clause-rejected
 returns-in-Err-clause-rejected c =
@@ -43,7 +42,7 @@ pub returns-in-Err-clause-answer : goal.returns-in-Err-clause-answer
 returns-in-Err-clause-answer c =
     let rejected : IfErr c.match-split_numbers.read (IsVersionRejection (trim c.args.text.now)) = elim c.match-split_numbers.branch
     [ in-Some-2 w ↦ rw w.read-is w.read_on-read.ensures.rejected | in-None w ↦ rw w.read-is (rw w.trim.ensures.trim at w.read-read.ensures.rejected) ] in
-    rejected_answer (λ (error : ParserError Versions). error.source) (trim c.args.text.now) (record { source = c.in-Err.source; parsed = record {} }) (rw c.in-Err.is at rejected)
+    rejected_answer source_of (trim c.args.text.now) (record { source = c.in-Err.source }) (rw c.in-Err.is at rejected)
 
 -- three numbers alone
 pub returns-in-Some-clause-read : goal.returns-in-Some-clause-read
@@ -62,4 +61,4 @@ pub returns-in-Some-clause-answer : goal.returns-in-Some-clause-answer
 returns-in-Some-clause-answer c =
     let nil : c.in-Some.rest.now ≡ [] = nil_from_length c.in-Some.rest.now (grind (arith, nat_tests)) in
     let plain = short_version {numbers = c.in-Some.numbers} (rw nil at c.in-Some.ensures.numbers) in
-    rw plain.trimmed (read_answer (λ (error : ParserError Versions). error.source) c.args.text.now c.release.result (rw c.release.ensures plain.version))
+    rw plain.trimmed (read_answer source_of c.args.text.now c.release.result (rw c.release.ensures plain.version))

@@ -1,4 +1,3 @@
-use Rattle.std.proofs.Common.{true, false}
 use Rattle.deno_semver.proofs.NameAndVersion.{bad_answer, bad_rejection, followed_answer, followed_rejection, whole_answer, whole_read}
 use Rattle.deno_semver.proofs.NvText.{reads_back}
 use Rattle.deno_semver.proofs.Runs.{none_left, some_left}
