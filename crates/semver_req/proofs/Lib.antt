@@ -13,6 +13,7 @@ pub mod LedReadings
 pub mod Operators
 pub mod NpmComparators
 pub mod OneOutcome
+pub mod OneReason
 pub mod OutcomesFit
 pub mod OutcomesHaveIdentifiers
 pub mod Overlaps

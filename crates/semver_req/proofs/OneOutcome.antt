@@ -128,7 +128,7 @@ cut_one_outcome (normal_rejected h m less) (normal_rejected k n fewer) = refl
 pub some_or_none : {V T : Type 0} {R : List ℕ → V → Type 0} {text rest : List ℕ} {v : V} → IsLongest R text v rest → HasNone R text → T
 some_or_none {rest = rest} p n = absurd (n.none p.front rest _ p.text_is p.stands)
 
-fits_or_not : {T : Type 0} {text rest more : List ℕ} {c d : Comparator} → IsLongest IsSpecifierRange text c rest → IsLongest IsSpecifierRange text d more → fits c ≡ true → fits d ≡ false → T
+pub fits_or_not : {T : Type 0} {text rest more : List ℕ} {c d : Comparator} → IsLongest IsSpecifierRange text c rest → IsLongest IsSpecifierRange text d more → fits c ≡ true → fits d ≡ false → T
 fits_or_not p q f g = absurd (let same = (one_front p q).0 in let h : true ≡ false = sym f ∙ (ap fits same ∙ g) in cc h)
 
 whole_or_not : {T : Type 0} {text rest : List ℕ} {c d : Comparator} → IsLongest IsSpecifierRange text c [] → IsLongest IsSpecifierRange text d rest → 0 < length rest → T

@@ -12,6 +12,7 @@ ghost use Rattle.semver_req.specs.Ascending.{AscendingArrangementsTie};
 ghost use Rattle.semver_req.specs.ResolveSteps.{OneWalkFindsTheBest};
 ghost use Rattle.semver_req.specs.RetainedSet.{RetainedSetsMeanTheirTrees};
 ghost use Rattle.semver_req.specs.Outcome.{TextsHaveOneOutcome};
+ghost use Rattle.semver_req.specs.TextRejection.{TextsAreRejectedForOneReason};
 ghost use Rattle.semver_req.specs.Pieces.{NormalPiecesAreNpms};
 ghost use Rattle.semver_req.specs.Parsers.{ReadRequirementsAreAnswers};
 ghost use Rattle.semver_req.specs.Sameness.{inner_reported};
@@ -46,6 +47,11 @@ pub fn equal_requirements(one: &VersionReq, other: &VersionReq) -> bool
 /// an error.
 pub fn texts_have_one_outcome()
     ensures { TextsHaveOneOutcome }
+{}
+
+/// A grammar rejects a text for one reason: no text has two failures other than out of memory.
+pub fn texts_are_rejected_for_one_reason()
+    ensures { TextsAreRejectedForOneReason }
 {}
 
 /// A requirement that means an outcome of a text, and keeps the text that was parsed, is a result of the text's parser: all
