@@ -2,6 +2,7 @@
 use Rattle.std.proofs.Common.{◌≡◌, ℕ, List, Bool, Option, Some, None, Ok, Err, Result, refl, ap, inl, inr, ◌⊎◌}
 use Rattle.semver_base.specs.declared.range.PreRelease.{PreRelease}
 use Rattle.semver_base.specs.declared.version.Version.{Version}
+use Rattle.semver_req.specs.Parsers.{Failure}
 use Rattle.semver_req.specs.Requirement.{inner_means_with, tag_of}
 use Rattle.semver_req.specs.declared.range_set_or_tag.RangeSetOrTag.{RangeSetOrTag}
 use Rattle.semver_req.specs.declared.range_set_or_tag.RangeSetOrTag.TheVariants as inner
@@ -12,8 +13,8 @@ use Rattle.answers.specs.Reading.{IsVersionAt}
 use Rattle.answers.specs.declared.asking.Answer.TheVariants.{Value}
 use Rattle.answers.specs.declared.asking.Kind.{Kind}
 
-pub invalid_proper : (kind : Kind) (place : ℕ) → Invalid kind place ≡ OutOfMemory → ⊥
-invalid_proper kind place e = cc e
+pub invalid_proper : (kind : Kind) (place : ℕ) (failure : Failure) → Invalid kind place failure ≡ OutOfMemory → ⊥
+invalid_proper kind place failure e = cc e
 
 abbrev answered : {X : Type 0} → Option X → Result (Option X) Fault
 answered answer = Ok answer

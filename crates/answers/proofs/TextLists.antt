@@ -1,13 +1,9 @@
 -- Parsing arguments one by one from a list of texts.
-use Rattle.std.proofs.Common.{◌≡◌, ◌+◌, ◌<◌, ◌≤◌, ◌++◌, ◌∷◌, ◌∙◌, ℕ, zero, suc, arith, List, [], length, map, take, get_or, slice_get, Ok, Err, Result, Some, refl, sym, ap, subst}
+use Rattle.std.proofs.Common.{◌≡◌, ◌+◌, ◌<◌, ◌≤◌, ◌++◌, ◌∷◌, ◌∙◌, ℕ, zero, suc, arith, List, [], length, map, take, get_or, Ok, Err, Result, refl, sym, ap, subst}
 use Rattle.std.proofs.lemmas.List.{map-append, take_all, take_more}
-use Rattle.semver_req.specs.Parsers.{AreReadOrTags, Failure, IsReadOrTag}
+use Rattle.semver_req.specs.Parsers.{AreReadOrTags, IsReadOrTag}
 use Rattle.semver_req.specs.Requirement.{Requirement}
-use Rattle.answers.specs.Asking.{Each, IsFailureAt, IsOutcomeOf}
-use Rattle.answers.specs.Reading.{IsFailureAmong}
-use Rattle.answers.specs.declared.asking.Kind.{Kind}
-use Rattle.answers.specs.declared.asking.Problem.{Problem}
-use Rattle.answers.specs.declared.asking.Problem.TheVariants as problem
+use Rattle.answers.specs.Asking.{Each, IsOutcomeOf}
 use Rattle.answers.proofs.Givens.{AreValues, all_values, next_invalid, one_more}
 
 -- the parsed requirements, and one more
@@ -24,27 +20,7 @@ module _ {S : Type 0} (bytes : S → List ℕ) where
       let later = split_at xs i d (omega (arith, within)) in
       (later.0, ap (λ ys. bytes x ∷ ys) later.1)
 
-  length_taken : (xs : List S) (i : ℕ) → i < length xs → length (map bytes (take i xs)) ≡ i
-  length_taken [] i within = absurd (omega (arith, within))
-  length_taken (x ∷ xs) zero within = refl
-  length_taken (x ∷ xs) (suc i) within = ap (λ n. suc n) (length_taken xs i (omega (arith, within)))
-
-  stands_at : (xs : List S) (i : ℕ) (d : S) → i < length xs → slice_get (map bytes xs) i ≡ Some (bytes (get_or xs i d))
-  stands_at [] i d within = absurd (omega (arith, within))
-  stands_at (x ∷ xs) zero d within = refl
-  stands_at (x ∷ xs) (suc i) d within = stands_at xs i d (omega (arith, within))
-
   module _ {X P : Type 0} (memory : P) (Argument : ℕ → List ℕ → Result X P → Type 0) where
-    same_length : (place : ℕ) (texts : List (List ℕ)) (ys : List X) → AreValues memory Argument place texts ys → length ys ≡ length texts
-    same_length place [] [] h = refl
-    same_length place [] (y ∷ ys) h = absurd h
-    same_length place (t ∷ ts) [] h = absurd h
-    same_length place (t ∷ ts) (y ∷ ys) h = ap (λ n. suc n) (same_length (place + 1) ts ys h.1)
-
-    -- there are as many values as texts taken
-    pub count_taken : (xs : List S) (i : ℕ) (ys : List X) → i < length xs → AreValues memory Argument 0 (map bytes (take i xs)) ys → length ys ≡ i
-    count_taken xs i ys within h = same_length 0 (map bytes (take i xs)) ys h ∙ length_taken xs i within
-
     pub value_more : (xs : List S) (i : ℕ) (d : S) (ys : List X) (y : X) (at : ℕ) → i < length xs → AreValues memory Argument 0 (map bytes (take i xs)) ys → at ≡ length ys
         → IsOutcomeOf memory (Argument at (bytes (get_or xs i d))) (Ok y) → AreValues memory Argument 0 (map bytes (take (i + 1) xs)) (ys ++ y ∷ [])
     value_more xs i d ys y at within h e k =
@@ -63,10 +39,3 @@ module _ {S : Type 0} (bytes : S → List ℕ) where
         → IsOutcomeOf memory (Each Argument 0 (map bytes xs)) (Ok ys)
     values_of_all xs i ys past h =
         subst (λ texts. IsOutcomeOf memory (Each Argument 0 (map bytes texts)) (Ok ys)) (take_all i xs past) (all_values memory Argument 0 (map bytes (take i xs)) ys h)
-
-  -- the text at the place is the invalid one
-  pub failed_among : (kind : Kind) (Reported : List ℕ → Failure → Type 0) (xs : List S) (i : ℕ) (d : S) (at : ℕ) (p : Problem) → i < length xs → at ≡ i
-      → IsFailureAt kind at (Reported (bytes (get_or xs i d))) p → IsFailureAmong kind Reported (map bytes xs) p
-  failed_among kind Reported xs i d at (problem.Invalid argument) within e h =
-      (h.0, (bytes (get_or xs i d), subst (λ k. slice_get (map bytes xs) k ≡ Some (bytes (get_or xs i d))) (sym (h.1 ∙ e)) (stands_at xs i d within), h.2))
-  failed_among kind Reported xs i d at problem.OutOfMemory within e h = tt

@@ -1,5 +1,6 @@
 -- Questions about texts, and their results.
 use Rattle.std.specs.Prelude.{◌≡◌, ◌⊎◌, ◌+◌, ℕ, List, [], ◌∷◌, Some, None, Result, Ok, Err}
+use Rattle.semver_base.specs.Failure.{message_of}
 use Rattle.semver_req.specs.Parsers.{Failure}
 use Rattle.answers.specs.declared.asking.Kind.{Kind}
 use Rattle.answers.specs.declared.asking.Problem.{Problem}
@@ -7,15 +8,20 @@ use Rattle.answers.specs.declared.asking.Problem.TheVariants as problem
 
 -- ---- outcomes
 
--- why a question has no result: the argument of this kind at this place is invalid, or memory ran out
+-- why a question has no result: the argument of this kind at this place is invalid, with this failure; or memory ran out
 pub data Fault : Type 0 where
-  Invalid : Kind → ℕ → Fault
+  Invalid : Kind → ℕ → Failure → Fault
   OutOfMemory : Fault
 
--- what is wrong, without its message
+-- what is wrong
 abbrev pub fault_of : Problem → Fault
-fault_of (problem.Invalid argument) = Invalid argument.kind argument.place
+fault_of (problem.Invalid argument) = Invalid argument.kind argument.place argument.failure
 fault_of problem.OutOfMemory = OutOfMemory
+
+-- what is said of it
+abbrev pub fault_message : Fault → List ℕ
+fault_message (Invalid kind place failure) = message_of failure
+fault_message OutOfMemory = message_of None
 
 -- the outcome of a result whose value means this
 abbrev pub outcome_of : {E X : Type 0} → (E → X) → Result E Problem → Result X Fault
@@ -52,21 +58,10 @@ Each Argument place [] = Is []
 Each Argument place (text ∷ texts) =
     Given (Argument place text) (λ x. Given (Each Argument (place + 1) texts) (λ xs. Is (x ∷ xs)))
 
--- ---- failures
-
--- the failure that a problem reports; none if memory ran out
-abbrev pub failure_of : Problem → Failure
-failure_of (problem.Invalid argument) = argument.failure
-failure_of problem.OutOfMemory = None
+-- ---- problems
 
 -- a failure means out of memory, or that the argument is invalid
 abbrev pub problem_of : Kind → ℕ → Failure → Problem
 problem_of kind place None = problem.OutOfMemory
 problem_of kind place (Some texts) =
     problem.Invalid (record { kind = kind; place = place; failure = Some texts })
-
--- the argument of this kind at this place is invalid with such a failure, or memory ran out
-abbrev pub IsFailureAt : Kind → ℕ → (Failure → Type 0) → Problem → Type 0
-IsFailureAt kind place Reported (problem.Invalid argument) =
-    (argument.kind ≡ kind) × (argument.place ≡ place) × Reported argument.failure
-IsFailureAt kind place Reported problem.OutOfMemory = Unit {0}

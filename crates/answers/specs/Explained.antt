@@ -1,6 +1,6 @@
 -- What a grammar makes of a range's text, alternative by alternative.
-use Rattle.std.specs.Prelude.{◌≡◌, ℕ, List, [], ◌∷◌, Bool, false, string_bytes}
-use Rattle.semver_base.specs.LowestVersion.{IsLowest, DecidesSome}
+use Rattle.std.specs.Prelude.{◌≡◌, ◌↔◌, ℕ, IsTrue, List, [], ◌∷◌, Bool, false, string_bytes}
+use Rattle.semver_base.specs.LowestVersion.{IsLowest, PassesSome}
 use Rattle.semver_base.specs.Meaning.{is_pre_match, range_means_with}
 use Rattle.semver_base.specs.declared.range.PreRelease.{PreRelease}
 use Rattle.semver_base.specs.declared.range.VersionRange.{VersionRange}
@@ -24,8 +24,8 @@ use Rattle.answers.specs.declared.explained.Piece.{Piece}
 -- what the range matches: the lowest version, and whether pre-releases of its start's and its end's numbers match
 pub record AreMatches (flag : PreRelease) (matches : Matches) : Type 0 where
   pub lowest : IsLowest (range_means_with flag matches.range) matches.lowest
-  pub of_start : DecidesSome (is_pre_match matches.range matches.range.start) matches.pre_of_start
-  pub of_end : DecidesSome (is_pre_match matches.range matches.range.end) matches.pre_of_end
+  pub of_start : IsTrue matches.pre_of_start ↔ PassesSome (is_pre_match matches.range matches.range.start)
+  pub of_end : IsTrue matches.pre_of_end ↔ PassesSome (is_pre_match matches.range matches.range.end)
 
 -- the range, with what it matches
 abbrev pub IsMeaningOfRange : PreRelease → VersionRange → Meaning → Type 0

@@ -4,6 +4,7 @@ pub mod Filtering
 pub mod Parts
 pub mod Questions
 pub mod Reading
+pub mod Outdated
 pub mod Sorting
 pub mod Errors
 pub mod ExplainedJson

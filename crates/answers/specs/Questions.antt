@@ -23,7 +23,8 @@ use Rattle.answers.specs.declared.questions.End.TheVariants.{Highest, Lowest}
 
 -- ---- tags
 
-abbrev first_of : Option (List ℕ) → Option (List ℕ) → Option (List ℕ)
+-- the one, or else the other
+abbrev pub first_of : Option (List ℕ) → Option (List ℕ) → Option (List ℕ)
 first_of (Some tag) other = Some tag
 first_of None other = other
 

@@ -1,8 +1,7 @@
 //! The results of questions, and why a question may have none.
 
 ghost use Rattle.std.specs.Prelude.{◌≡◌};
-ghost use Rattle.semver_base.specs.Failure.{message_of};
-ghost use Rattle.answers.specs.Asking.{failure_of, problem_of};
+ghost use Rattle.answers.specs.Asking.{fault_message, fault_of, problem_of};
 ghost use Rattle.answers.specs.declared.asking.Problem.TheVariants as problem;
 
 use semver_base::failure::ParseFailure;
@@ -62,7 +61,7 @@ impl Problem {
 
     /// What is wrong.
     pub fn message(&self) -> &str
-        ensures { result.now ≡ message_of (failure_of self.now) }
+        ensures { result.now ≡ fault_message (fault_of self.now) }
     {
         match self {
             Problem::Invalid(argument) => argument.failure.message(),

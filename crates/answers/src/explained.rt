@@ -3,10 +3,8 @@
 ghost use Rattle.std.specs.Prelude.{◌≡◌, ◌⊎◌, Err, IfErr, IfOk};
 ghost use Rattle.semver_base.specs.NormalText.{IsWritableRange};
 ghost use Rattle.answers.specs.Explained.{AreExplained, IsExplained, IsExplainedPiece, IsMeaningOfRange};
-ghost use Rattle.answers.specs.Asking.{IsFailureAt, OutOfMemory, fault_of};
+ghost use Rattle.answers.specs.Asking.{OutOfMemory, fault_of};
 ghost use Rattle.answers.specs.Reading.{IsRangeAt};
-ghost use Rattle.answers.specs.declared.asking.Kind.TheVariants as kind;
-ghost use Rattle.semver_req.specs.TextRejection.{IsTextRejection};
 
 use crate::asking::Problem;
 use crate::reading::range;
@@ -135,8 +133,6 @@ pub fn explain(
     ensures answer { IfOk result (IsExplained flavour pre_release text.now) }
     ensures invalid { IfErr result
         (λ p. (fault_of p ≡ OutOfMemory) ⊎ IsRangeAt flavour 0 text.now (Err (fault_of p))) }
-    ensures failure { IfErr result
-        (IsFailureAt kind.Range 0 (IsTextRejection flavour text.now)) }
 {
     read_ranges_are_writable();
     let range = range(alloc, flavour, 0, text)?;

@@ -1,14 +1,12 @@
 //! Explanations as JSON.
 
-ghost use Rattle.std.specs.Prelude.{◌≡◌, ◌++◌, IfErr, IfOk, OnOk, map, string_bytes};
+ghost use Rattle.std.specs.Prelude.{◌≡◌, ◌++◌, IfOk, OnOk, map, string_bytes};
 ghost use Rattle.std.specs.Option.{option_copied};
 ghost use Rattle.serde_json.specs.Data.{string};
 ghost use Rattle.serde_json.specs.View.{view};
-ghost use Rattle.semver_req.specs.TextRejection.{IsTextRejection};
-ghost use Rattle.answers.specs.Asking.{IsFailureAt, IsOneAnswer};
+ghost use Rattle.answers.specs.Asking.{IsOneAnswer};
 ghost use Rattle.answers.specs.ExplainedJson.{Explains, error_for, errors_behind, matches_json, numbers_text, option_list, pre_release_of, pre_releases, ranges_explained};
 ghost use Rattle.answers.specs.Filtering.{list_answer};
-ghost use Rattle.answers.specs.declared.asking.Kind.TheVariants as kind;
 
 use crate::asking::{Answer, Problem};
 use crate::errors::{error_json, errors};
@@ -160,10 +158,8 @@ pub fn explain_as_json(
     pre_release: PreRelease,
     text: &str,
 ) -> Result<Answer<String>, Problem>
-    ensures answer { IsOneAnswer (Explains pre_release flavour text.now)
+    ensures { IsOneAnswer (Explains pre_release flavour text.now)
         (λ answer. list_answer (λ text. string_bytes text) answer) result }
-    ensures failure { IfErr result
-        (IsFailureAt kind.Range 0 (IsTextRejection flavour text.now)) }
 {
     match explain(alloc, flavour, pre_release, text)? {
         Explanation::Tag(tag) => Ok(Answer::Tag(tag)),

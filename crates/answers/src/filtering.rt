@@ -2,12 +2,10 @@
 
 ghost use Rattle.std.specs.Prelude.{◌≡◌, IfErr, IfOk, None};
 ghost use Rattle.semver_req.specs.Requirement.{inner_means_with, tag_of};
-ghost use Rattle.semver_req.specs.TextRejection.{IsTextRejection};
 ghost use Rattle.semver_req.specs.Resolve.{IsBestMatch, IsOnlyMatch};
-ghost use Rattle.answers.specs.Asking.{IsAnswer, IsFailureAt};
+ghost use Rattle.answers.specs.Asking.{IsAnswer};
 ghost use Rattle.answers.specs.Filtering.{Filter, IsLine, VersionLines, better_line, line_answer, line_passes, list_answer, list_matches};
 ghost use Rattle.answers.specs.Reading.{texts_of};
-ghost use Rattle.answers.specs.declared.asking.Kind.TheVariants as kind;
 ghost use Rattle.answers.specs.declared.asking.Problem.TheVariants as problem;
 
 use crate::asking::{Answer, Problem};
@@ -54,11 +52,9 @@ pub fn filter(
     range_text: &str,
     version_texts: &[&str],
 ) -> Result<Answer<Vec<Option<bool>>>, Problem>
-    ensures answer { IsAnswer
+    ensures { IsAnswer
         (Filter pre_release flavour range_text.now (texts_of version_texts.now))
         (λ answer. list_answer (λ list. list.items) answer) result }
-    ensures failure { IfErr result
-        (IsFailureAt kind.Range 0 (IsTextRejection flavour range_text.now)) }
 {
     let range = range(alloc, flavour, 0, range_text)?;
     if let Some(tag) = range.tag() {

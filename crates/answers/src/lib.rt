@@ -7,6 +7,7 @@ pub mod explained;
 pub mod explained_json;
 pub mod filtering;
 pub mod object;
+pub mod outdated;
 pub mod parts;
 pub mod questions;
 pub mod reading;

@@ -1,14 +1,11 @@
 //! The parts of versions and ranges, as JSON.
 
-ghost use Rattle.std.specs.Prelude.{◌≡◌, IfErr, IfOk, string_bytes};
+ghost use Rattle.std.specs.Prelude.{◌≡◌, IfOk, string_bytes};
 ghost use Rattle.serde_json.specs.Data.{string};
 ghost use Rattle.serde_json.specs.View.{view};
-ghost use Rattle.semver_base.specs.VersionGrammar.{IsVersionRejection};
 ghost use Rattle.semver_base.specs.VersionText.{version_text};
-ghost use Rattle.semver_req.specs.TextRejection.{IsTextRejection};
 ghost use Rattle.std.specs.Fmt.{decimal};
-ghost use Rattle.std.specs.Str.{trim};
-ghost use Rattle.answers.specs.Asking.{IsAnswer, IsFailureAt};
+ghost use Rattle.answers.specs.Asking.{IsAnswer};
 ghost use Rattle.answers.specs.Filtering.{list_answer};
 ghost use Rattle.answers.specs.Parts.{RangeParts, VersionParts, bound_json, texts_json};
 ghost use Rattle.answers.specs.declared.asking.Kind.TheVariants as kind;
@@ -52,9 +49,7 @@ pub fn displayed_json(alloc: Global, version: &Version) -> Result<Value, AllocEr
 /// Parses a version, and returns its parts as the text of a JSON object: its three numbers as texts, and the parts of its
 /// pre-release and its build.
 pub fn version_parts(alloc: Global, version_text: &str) -> Result<String, Problem>
-    ensures answer { IsAnswer (VersionParts version_text.now) (λ text. string_bytes text) result }
-    ensures failure { IfErr result
-        (IsFailureAt kind.Version 0 (IsVersionRejection (trim version_text.now))) }
+    ensures { IsAnswer (VersionParts version_text.now) (λ text. string_bytes text) result }
 {
     let version = version(alloc, 0, version_text)?;
     let json = Object::new(alloc)
@@ -89,10 +84,8 @@ pub fn range_parts(
     flavour: Flavour,
     range_text: &str,
 ) -> Result<Answer<String>, Problem>
-    ensures answer { IsAnswer (RangeParts flavour range_text.now)
+    ensures { IsAnswer (RangeParts flavour range_text.now)
         (λ answer. list_answer (λ text. string_bytes text) answer) result }
-    ensures failure { IfErr result
-        (IsFailureAt kind.Range 0 (IsTextRejection flavour range_text.now)) }
 {
     let range = range(alloc, flavour, 0, range_text)?;
     match range.inner() {

@@ -3,16 +3,12 @@
 //! The arguments are parsed from left to right, and the first invalid one is the problem. If a range is a tag, the result is
 //! the tag once all arguments are parsed. Any other problem is out of memory.
 
-ghost use Rattle.std.specs.Prelude.{◌≡◌, ◌⊎◌, IfErr, IfOk, string_bytes};
+ghost use Rattle.std.specs.Prelude.{◌≡◌, IfOk, string_bytes};
 ghost use Rattle.std.specs.Option.{option_copied};
-ghost use Rattle.std.specs.Str.{trim};
-ghost use Rattle.semver_base.specs.VersionGrammar.{IsVersionRejection};
 ghost use Rattle.semver_base.specs.VersionText.{version_text};
-ghost use Rattle.semver_req.specs.TextRejection.{IsTextRejection};
-ghost use Rattle.answers.specs.Asking.{IsAnswer, IsFailureAt};
-ghost use Rattle.answers.specs.declared.asking.Kind.TheVariants as kind;
+ghost use Rattle.answers.specs.Asking.{IsAnswer};
 ghost use Rattle.answers.specs.Questions.{BestMatch, Canonical, Common, Displayed, Equivalent, Matches, Orders, Outside, Overlaps, better, first_tag};
-ghost use Rattle.answers.specs.Reading.{IsFailureAmong, texts_of};
+ghost use Rattle.answers.specs.Reading.{texts_of};
 
 use crate::asking::{Answer, Problem};
 use crate::reading::{range, ranges, version, versions};
@@ -55,11 +51,12 @@ pub struct Best {
 fn first_tag(ranges: &[VersionReq]) -> Option<&str>
     ensures { option_copied result ≡ first_tag ranges.now }
 {
-    let (first, others) = ranges.split_first()?;
-    match first.tag() {
-        Some(tag) => Some(tag),
-        None => first_tag(others),
+    for range in ranges {
+        if let Some(tag) = range.tag() {
+            return Some(tag);
+        }
     }
+    None
 }
 
 /// Does the version match the range?
@@ -70,11 +67,8 @@ pub fn matches(
     range_text: &str,
     version_text: &str,
 ) -> Result<Answer<bool>, Problem>
-    ensures answer { IsAnswer (Matches pre_release flavour range_text.now version_text.now)
+    ensures { IsAnswer (Matches pre_release flavour range_text.now version_text.now)
         (λ answer. answer) result }
-    ensures failure { IfErr result
-        (λ p. IsFailureAt kind.Range 0 (IsTextRejection flavour range_text.now) p
-        ⊎ IsFailureAt kind.Version 0 (IsVersionRejection (trim version_text.now)) p) }
 {
     let range = range(alloc, flavour, 0, range_text)?;
     let version = version(alloc, 0, version_text)?;
@@ -93,13 +87,9 @@ pub fn best_match(
     range_text: &str,
     version_texts: &[&str],
 ) -> Result<Answer<Option<Best>>, Problem>
-    ensures answer { IsAnswer
+    ensures { IsAnswer
         (BestMatch end pre_release flavour range_text.now (texts_of version_texts.now))
         (λ answer. answer) result }
-    ensures failure { IfErr result
-        (λ p. IsFailureAt kind.Range 0 (IsTextRejection flavour range_text.now) p
-        ⊎ IsFailureAmong kind.Version (λ text. IsVersionRejection (trim text))
-        (texts_of version_texts.now) p) }
 {
     let range = range(alloc, flavour, 0, range_text)?;
     let mut versions = versions(alloc, version_texts)?;
@@ -126,11 +116,8 @@ pub fn overlaps(
     one_text: &str,
     other_text: &str,
 ) -> Result<bool, Problem>
-    ensures answer { IsAnswer (Overlaps flavour one_text.now other_text.now)
+    ensures { IsAnswer (Overlaps flavour one_text.now other_text.now)
         (λ answer. answer) result }
-    ensures failure { IfErr result
-        (λ p. IsFailureAt kind.Range 0 (IsTextRejection flavour one_text.now) p
-        ⊎ IsFailureAt kind.Range 1 (IsTextRejection flavour other_text.now) p) }
 {
     let one = range(alloc, flavour, 0, one_text)?;
     let other = range(alloc, flavour, 1, other_text)?;
@@ -144,10 +131,8 @@ pub fn common_version(
     pre_release: PreRelease,
     texts: &[&str],
 ) -> Result<Answer<Option<Version>>, Problem>
-    ensures answer { IsAnswer (Common pre_release flavour (texts_of texts.now))
+    ensures { IsAnswer (Common pre_release flavour (texts_of texts.now))
         (λ answer. answer) result }
-    ensures failure { IfErr result
-        (IsFailureAmong kind.Range (IsTextRejection flavour) (texts_of texts.now)) }
 {
     let ranges = ranges(alloc, flavour, texts)?;
     if let Some(tag) = first_tag(ranges.as_slice()) {
@@ -169,11 +154,8 @@ pub fn version_outside(
     one_text: &str,
     other_text: &str,
 ) -> Result<Answer<Option<Version>>, Problem>
-    ensures answer { IsAnswer (Outside pre_release flavour one_text.now other_text.now)
+    ensures { IsAnswer (Outside pre_release flavour one_text.now other_text.now)
         (λ answer. answer) result }
-    ensures failure { IfErr result
-        (λ p. IsFailureAt kind.Range 0 (IsTextRejection flavour one_text.now) p
-        ⊎ IsFailureAt kind.Range 1 (IsTextRejection flavour other_text.now) p) }
 {
     let one = range(alloc, flavour, 0, one_text)?;
     let other = range(alloc, flavour, 1, other_text)?;
@@ -192,11 +174,8 @@ pub fn equivalent(
     one_text: &str,
     other_text: &str,
 ) -> Result<Answer<bool>, Problem>
-    ensures answer { IsAnswer (Equivalent pre_release flavour one_text.now other_text.now)
+    ensures { IsAnswer (Equivalent pre_release flavour one_text.now other_text.now)
         (λ answer. answer) result }
-    ensures failure { IfErr result
-        (λ p. IsFailureAt kind.Range 0 (IsTextRejection flavour one_text.now) p
-        ⊎ IsFailureAt kind.Range 1 (IsTextRejection flavour other_text.now) p) }
 {
     let one = range(alloc, flavour, 0, one_text)?;
     let other = range(alloc, flavour, 1, other_text)?;
@@ -209,10 +188,8 @@ pub fn equivalent(
 
 /// What is the canonical form of the range? That of a tag is the tag.
 pub fn canonical(alloc: Global, flavour: Flavour, range_text: &str) -> Result<String, Problem>
-    ensures answer { IsAnswer (Canonical flavour range_text.now)
+    ensures { IsAnswer (Canonical flavour range_text.now)
         (λ text. string_bytes text) result }
-    ensures failure { IfErr result
-        (IsFailureAt kind.Range 0 (IsTextRejection flavour range_text.now)) }
 {
     let range = range(alloc, flavour, 0, range_text)?;
     Ok(range.to_string_normalized(alloc)?)
@@ -227,9 +204,7 @@ pub fn text_of_version(alloc: Global, version: &Version) -> Result<String, Alloc
 
 /// How is the version displayed?
 pub fn displayed(alloc: Global, version_text: &str) -> Result<String, Problem>
-    ensures answer { IsAnswer (Displayed version_text.now) (λ text. string_bytes text) result }
-    ensures failure { IfErr result
-        (IsFailureAt kind.Version 0 (IsVersionRejection (trim version_text.now))) }
+    ensures { IsAnswer (Displayed version_text.now) (λ text. string_bytes text) result }
 {
     let version = version(alloc, 0, version_text)?;
     Ok(text_of_version(alloc, &version)?)
@@ -237,10 +212,7 @@ pub fn displayed(alloc: Global, version_text: &str) -> Result<String, Problem>
 
 /// Which of the two versions comes before the other? The build doesn't matter.
 pub fn order(alloc: Global, one_text: &str, other_text: &str) -> Result<Ordering, Problem>
-    ensures answer { IsAnswer (Orders one_text.now other_text.now) (λ order. order) result }
-    ensures failure { IfErr result
-        (λ p. IsFailureAt kind.Version 0 (IsVersionRejection (trim one_text.now)) p
-        ⊎ IsFailureAt kind.Version 1 (IsVersionRejection (trim other_text.now)) p) }
+    ensures { IsAnswer (Orders one_text.now other_text.now) (λ order. order) result }
 {
     let one = version(alloc, 0, one_text)?;
     let other = version(alloc, 1, other_text)?;

@@ -1,17 +1,14 @@
 //! Parsing the arguments of a question.
 
-ghost use Rattle.std.specs.Prelude.{IfErr, IfOk};
-ghost use Rattle.std.specs.Str.{trim};
-ghost use Rattle.semver_base.specs.VersionGrammar.{IsVersionRejection};
+ghost use Rattle.std.specs.Prelude.{IfOk};
 ghost use Rattle.semver_req.specs.Parsers.{AreReadOrTags, IsReadOrTag};
-ghost use Rattle.semver_req.specs.TextRejection.{IsTextRejection};
-ghost use Rattle.answers.specs.Asking.{Each, IsAnswer, IsFailureAt};
-ghost use Rattle.answers.specs.declared.asking.Kind.TheVariants as kind;
-ghost use Rattle.answers.specs.Reading.{IsFailureAmong, IsRangeAt, IsVersionAt, texts_of};
+ghost use Rattle.answers.specs.Asking.{Each, IsAnswer};
+ghost use Rattle.answers.specs.Reading.{IsRangeAt, IsVersionAt, texts_of};
 
 use crate::asking::{Kind, Problem};
 use semver_base::version::Version;
 use semver_req::common::values::Flavour;
+use semver_req::laws::texts_are_rejected_for_one_reason;
 use semver_req::req::VersionReq;
 use std::alloc::Global;
 
@@ -24,9 +21,8 @@ pub fn range(
 ) -> Result<VersionReq, Problem>
     ensures answer { IsAnswer (IsRangeAt flavour place text.now) (λ req. req) result }
     ensures read { IfOk result (λ req. IsReadOrTag req.inner) }
-    ensures failure { IfErr result
-        (IsFailureAt kind.Range place (IsTextRejection flavour text.now)) }
 {
+    texts_are_rejected_for_one_reason();
     match VersionReq::parse(alloc, text, flavour) {
         Ok(range) => Ok(range),
         Err(failure) => Err(Problem::of(Kind::Range, place, failure)),
@@ -38,8 +34,6 @@ pub fn ranges(alloc: Global, flavour: Flavour, texts: &[&str]) -> Result<Vec<Ver
     ensures answer { IsAnswer (Each (IsRangeAt flavour) 0 (texts_of texts.now))
         (λ all. all.items) result }
     ensures read { IfOk result (λ all. AreReadOrTags all.items) }
-    ensures failure { IfErr result
-        (IsFailureAmong kind.Range (IsTextRejection flavour) (texts_of texts.now)) }
 {
     let mut all = Vec::new(alloc);
     for text in texts {
@@ -53,9 +47,7 @@ pub fn ranges(alloc: Global, flavour: Flavour, texts: &[&str]) -> Result<Vec<Ver
 
 /// Parses the version at this place.
 pub fn version(alloc: Global, place: usize, text: &str) -> Result<Version, Problem>
-    ensures answer { IsAnswer (IsVersionAt place text.now) (λ version. version) result }
-    ensures failure { IfErr result
-        (IsFailureAt kind.Version place (IsVersionRejection (trim text.now))) }
+    ensures { IsAnswer (IsVersionAt place text.now) (λ version. version) result }
 {
     match Version::parse_standard(alloc, text) {
         Ok(version) => Ok(version),
@@ -65,9 +57,7 @@ pub fn version(alloc: Global, place: usize, text: &str) -> Result<Version, Probl
 
 /// Parses the versions.
 pub fn versions(alloc: Global, texts: &[&str]) -> Result<Vec<Version>, Problem>
-    ensures answer { IsAnswer (Each IsVersionAt 0 (texts_of texts.now)) (λ all. all.items) result }
-    ensures failure { IfErr result
-        (IsFailureAmong kind.Version (λ text. IsVersionRejection (trim text)) (texts_of texts.now)) }
+    ensures { IsAnswer (Each IsVersionAt 0 (texts_of texts.now)) (λ all. all.items) result }
 {
     let mut all = Vec::new(alloc);
     for text in texts {

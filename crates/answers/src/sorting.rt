@@ -1,11 +1,8 @@
 //! The order of several versions.
 
-ghost use Rattle.std.specs.Prelude.{IfErr, IfOk, map};
-ghost use Rattle.std.specs.Str.{trim};
-ghost use Rattle.semver_base.specs.VersionGrammar.{IsVersionRejection};
+ghost use Rattle.std.specs.Prelude.{IfOk, map};
 ghost use Rattle.answers.specs.Asking.{IsAnswer};
-ghost use Rattle.answers.specs.Reading.{IsFailureAmong, texts_of};
-ghost use Rattle.answers.specs.declared.asking.Kind.TheVariants as kind;
+ghost use Rattle.answers.specs.Reading.{texts_of};
 ghost use Rattle.answers.specs.Sorting.{AreOnlySortedPlaces, AreSortedPlaces, Sorts, standing, standing_from, standing_lines};
 
 use crate::asking::Problem;
@@ -100,9 +97,7 @@ pub fn sorted_lines(
 
 /// In which order do the versions stand? Returns the first one's place first.
 pub fn sort(alloc: Global, texts: &[&str], order: Order) -> Result<Vec<usize>, Problem>
-    ensures answer { IsAnswer (Sorts order (texts_of texts.now)) (λ places. places.items) result }
-    ensures failure { IfErr result
-        (IsFailureAmong kind.Version (λ text. IsVersionRejection (trim text)) (texts_of texts.now)) }
+    ensures { IsAnswer (Sorts order (texts_of texts.now)) (λ places. places.items) result }
 {
     let versions = versions(alloc, texts)?;
     Ok(sorted_places(alloc, versions, order)?)

@@ -55,8 +55,8 @@ module _ {X : Type 0} (shown : X → Reported) (Asked : Result X Fault → Type 
       reports : (o : Result X Fault) → printed_for result ≡ reported_outcome o → (o ≡ Err fault.OutOfMemory) ⊎ Asked o → (printed_for result ≡ OutOfMemory) ⊎ Prints shown Asked (printed_for result)
       reports (Ok x) e (inl none) = absurd (cc none)
       reports (Ok x) e (inr a) = inr (subst (Prints shown Asked) (sym e) (prints a))
-      reports (Err (fault.Invalid kind place)) e (inl none) = absurd (cc none)
-      reports (Err (fault.Invalid kind place)) e (inr a) = inr (subst (Prints shown Asked) (sym e) (rejects a))
+      reports (Err (fault.Invalid kind place failure)) e (inl none) = absurd (cc none)
+      reports (Err (fault.Invalid kind place failure)) e (inr a) = inr (subst (Prints shown Asked) (sym e) (rejects a))
       reports (Err fault.OutOfMemory) e is = inl e
 
       same : (o : Result X Fault) → (outcome ≡ Err fault.OutOfMemory) ⊎ (outcome ≡ o) → (printed_for result ≡ OutOfMemory) ⊎ (printed_for result ≡ reported_outcome o)
@@ -65,7 +65,7 @@ module _ {X : Type 0} (shown : X → Reported) (Asked : Result X Fault → Type 
 
       every : (reported : Reported) → Prints shown Asked reported → (printed_for result ≡ OutOfMemory) ⊎ (printed_for result ≡ reported)
       every reported (prints {x = x} a) = same (Ok x) (h.only (Ok x) a)
-      every reported (rejects {kind = kind} {place = place} a) = same (Err (fault.Invalid kind place)) (h.only (Err (fault.Invalid kind place)) a)
+      every reported (rejects {kind = kind} {place = place} {failure = failure} a) = same (Err (fault.Invalid kind place failure)) (h.only (Err (fault.Invalid kind place failure)) a)
 
   -- out of memory
   pub ran_out : (result : Result Line Problem) → printed_for result ≡ OutOfMemory → IsPrinted (Prints shown Asked) result

@@ -2,6 +2,7 @@
 use Rattle.std.specs.Prelude.{◌≡◌, ◌⊎◌, ℕ, List, [], ◌∷◌, Result, Ok, Err, codes}
 use Rattle.semver_base.specs.declared.range.PreRelease.{PreRelease}
 use Rattle.semver_base.specs.declared.range.PreRelease.TheVariants.{Restricted, Admitted}
+use Rattle.semver_req.specs.Parsers.{Failure}
 use Rattle.semver_req.specs.declared.common.values.Flavour.{Flavour}
 use Rattle.semver_req.specs.declared.common.values.Flavour.TheVariants.{Npm, Normal, Specifier}
 use Rattle.answers.specs.Asking.{Fault, Invalid}
@@ -26,7 +27,7 @@ NoParser name = (f : Flavour) → IsParser name f → ⊥
 -- the line for a question's result, or that an argument is invalid
 pub data Prints {X : Type 0} (line : X → Reported) (Asked : Result X Fault → Type 0) : Reported → Type 0 where
   prints : {x : X} → Asked (Ok x) → Prints line Asked (line x)
-  rejects : {kind : Kind} {place : ℕ} → Asked (Err (Invalid kind place)) → Prints line Asked Rejected
+  rejects : {kind : Kind} {place : ℕ} {failure : Failure} → Asked (Err (Invalid kind place failure)) → Prints line Asked Rejected
 
 -- what is asked by the grammar of a name; for an unknown name, the usage
 pub data ByParser (name : List ℕ) (Asked : Flavour → Reported → Type 0) : Reported → Type 0 where

@@ -30,7 +30,7 @@ reported_answer (line.Text text) = Text (string_bytes text)
 reported_answer line.NoMatch = NoMatch
 
 abbrev pub reported_fault : Fault → Reported
-reported_fault (fault.Invalid kind place) = Rejected
+reported_fault (fault.Invalid kind place failure) = Rejected
 reported_fault fault.OutOfMemory = OutOfMemory
 
 abbrev pub reported_problem : Problem → Reported

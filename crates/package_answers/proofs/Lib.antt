@@ -1,3 +1,4 @@
 pub mod Outcomes
 pub mod PackagePlaces
 pub mod ReferencePlaces
+pub mod Reasons

@@ -15,7 +15,7 @@ pub no_message : (message : List ℕ) (failure : Failure) → (failure ≡ None)
 no_message message failure (inl none) m = none
 no_message message failure (inr h) m = absurd (h.0 m)
 
-one_registry : (text : List ℕ) (k j : PackageKind) → IsRegistryOf text k → IsRegistryOf text j → k ≡ j
+pub one_registry : (text : List ℕ) (k j : PackageKind) → IsRegistryOf text k → IsRegistryOf text j → k ≡ j
 one_registry text Jsr Jsr h g = refl
 one_registry text Jsr Npm h g = absurd (g h.0 h.1)
 one_registry text Npm Jsr h g = absurd (h g.0 g.1)
@@ -31,7 +31,7 @@ module _ {X F : Type 0} (Outcome : PackageKind → Result X F → Type 0) (text 
       → made kind x ≡ made j y
   same_of_registry made x j y r k only = ap (made kind) (only y (by_this j (Ok y) r k)) ∙ ap (λ (i : PackageKind). made i y) (one_registry text kind j registry r)
 
-  pub in_registry : {failure : Failure} → (failure ≡ None) ⊎ ((fault : F) × Outcome kind (Err fault))
-      → (failure ≡ None) ⊎ ((fault : F) × ((j : PackageKind) × IsRegistryOf text j × Outcome j (Err fault)))
-  in_registry (inl none) = inl none
-  in_registry (inr found) = inr (found.0, (kind, registry, found.1))
+  pub in_registry : {M : Type 0} {Reported : F → Type 0} → M ⊎ ((fault : F) × Outcome kind (Err fault) × Reported fault)
+      → M ⊎ ((fault : F) × ((j : PackageKind) × IsRegistryOf text j × Outcome j (Err fault)) × Reported fault)
+  in_registry (inl m) = inl m
+  in_registry (inr found) = inr (found.0, (kind, registry, found.1), found.2)

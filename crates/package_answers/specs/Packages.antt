@@ -1,5 +1,5 @@
 -- The package that a text parses to, its parts, and what is wrong with an invalid text.
-use Rattle.std.specs.Prelude.{◌≡◌, ◌⊎◌, ◌==◌, ◌+◌, ℕ, List, [], ◌∷◌, Option, None, Some, Result, Ok, Err, codes, drop, length, if◌then◌else◌, take_while}
+use Rattle.std.specs.Prelude.{◌≡◌, ◌==◌, ◌+◌, ℕ, List, [], ◌∷◌, Option, None, Some, Result, Ok, Err, codes, drop, length, if◌then◌else◌, take_while}
 use Rattle.serde_json.specs.Data.{Data, member, no_members, object, string}
 use Rattle.serde_json.specs.Written.{compact_text}
 use Rattle.semver_base.specs.Characters.{at_sign, slash}
@@ -11,14 +11,13 @@ use Rattle.semver_req.specs.InvalidPieces.{AreInvalidBehind}
 use Rattle.semver_req.specs.declared.error_places.pieces.InvalidPiece.{InvalidPiece}
 use Rattle.deno_semver.specs.PackagePlaces.{IsRequirementAt, LacksRequirement}
 use Rattle.deno_semver.specs.PackageOutcome as outcome
-use Rattle.deno_semver.specs.PackageOutcome.{BadVersion, IsPackageOutcome, IsPackageRejection, Reports}
-use Rattle.deno_semver.specs.declared.package.errors.PackageReqParseError.{PackageReqParseError}
+use Rattle.deno_semver.specs.PackageOutcome.{BadVersion, IsPackageOutcome, PackageFault, Reports}
 use Rattle.deno_semver.specs.declared.package.errors.PackageReqPartsParseError.{PackageReqPartsParseError}
 use Rattle.deno_semver.specs.declared.package.errors.PackageReqPartsParseError.TheVariants as parts
 use Rattle.deno_semver.specs.declared.package.values.PackageReq.{PackageReq}
 use Rattle.answers.specs.Asking.{Fault, Given, Is}
 use Rattle.answers.specs.Object.{text_or_null}
-use Rattle.answers.specs.Reading.{Parsed}
+use Rattle.answers.specs.Reading.{Parsed, ReadBy}
 use Rattle.answers.specs.declared.asking.Kind.TheVariants as kind
 use Rattle.package_answers.specs.Errors.{IsFaultAt, IsPartError, package_errors_json}
 use Rattle.package_answers.specs.declared.errors.PackageErrors.{PackageErrors}
@@ -47,16 +46,6 @@ package_json req =
     (member (codes "requirement") (string req.version_req.raw_text)
     (member (codes "scope") (text_or_null (scope_part req.name)) no_members))))
 
--- ---- the question
-
--- the package that a text parses to, with a grammar for its range
-abbrev pub IsPackage : Flavour → List ℕ → Result PackageReq Fault → Type 0
-IsPackage f text = Parsed kind.Package 0 (IsPackageOutcome f text)
-
--- its parts
-abbrev pub PackageParts : Flavour → List ℕ → Result (List ℕ) Fault → Type 0
-PackageParts f text = Given (IsPackage f text) (λ req. Is (compact_text (package_json req)))
-
 -- ---- failures
 
 -- what is wrong: with the range what its grammar reports, else one of three messages; none for out of memory
@@ -70,10 +59,19 @@ parts_failure parts.MissingAtSymbol =
     Some (codes "Packages in the format <scope>/<name> must start with an '@' symbol.", None)
 parts_failure parts.Memory = None
 
--- the failure is that of the text's first fault, or out of memory
-abbrev pub IsPackageFailure : Flavour → List ℕ → Failure → Type 0
-IsPackageFailure f text failure = (failure ≡ None)
-    ⊎ ((error : PackageReqParseError) × IsPackageRejection f text error × (failure ≡ parts_failure error.source))
+-- the failure is that of an error that reports the fault
+abbrev pub ShowsPackageFault : Flavour → PackageFault → Failure → Type 0
+ShowsPackageFault f fault failure = (e : PackageReqPartsParseError) × Reports f fault e × (failure ≡ parts_failure e)
+
+-- ---- the question
+
+-- the package that a text parses to, with a grammar for its range
+abbrev pub IsPackage : Flavour → List ℕ → Result PackageReq Fault → Type 0
+IsPackage f text = Parsed kind.Package 0 (ReadBy (IsPackageOutcome f text) (ShowsPackageFault f))
+
+-- its parts
+abbrev pub PackageParts : Flavour → List ℕ → Result (List ℕ) Fault → Type 0
+PackageParts f text = Given (IsPackage f text) (λ req. Is (compact_text (package_json req)))
 
 -- ---- places of errors
 

@@ -1,5 +1,5 @@
 -- The package reference that a text parses to, its parts, and what is wrong with an invalid text.
-use Rattle.std.specs.Prelude.{◌≡◌, ◌⊎◌, ◌++◌, ◌∷◌, ◌+◌, ℕ, List, true, Option, None, Some, Result, Ok, Err, codes, length}
+use Rattle.std.specs.Prelude.{◌≡◌, ◌++◌, ◌∷◌, ◌+◌, ℕ, List, true, Option, None, Some, Result, Ok, Err, codes, length}
 use Rattle.std.specs.List.{list_all}
 use Rattle.serde_json.specs.Data.{Data, member, no_members, object, string}
 use Rattle.serde_json.specs.Written.{compact_text}
@@ -12,7 +12,7 @@ use Rattle.deno_semver.specs.Kind.{scheme_of}
 use Rattle.deno_semver.specs.PackageOutcome as outcome
 use Rattle.deno_semver.specs.PackageOutcome.{BadVersion}
 use Rattle.deno_semver.specs.ReferenceOutcome as reference
-use Rattle.deno_semver.specs.ReferenceOutcome.{BadText, IsReferenceOutcome, IsReferenceRejection, OtherScheme, ReferenceError, ReferenceFault, ReportsReference, VersionInPath, unboxed}
+use Rattle.deno_semver.specs.ReferenceOutcome.{BadText, IsReferenceOutcome, OtherScheme, ReferenceError, ReferenceFault, ReportsReference, VersionInPath, unboxed}
 use Rattle.deno_semver.specs.ReferenceText.{LacksScheme}
 use Rattle.deno_semver.specs.declared.package.values.PackageKind.{PackageKind}
 use Rattle.deno_semver.specs.declared.package.values.PackageKind.TheVariants.{Jsr, Npm}
@@ -20,7 +20,7 @@ use Rattle.deno_semver.specs.declared.package.errors.PackageReqReferenceParseErr
 use Rattle.answers.specs.Asking.{Fault, Given, Is}
 use Rattle.package_answers.specs.Packages.{AreOfRange, package_json, parts_failure}
 use Rattle.answers.specs.Object.{text_or_null}
-use Rattle.answers.specs.Reading.{Parsed}
+use Rattle.answers.specs.Reading.{Parsed, ReadBy}
 use Rattle.answers.specs.declared.asking.Kind.TheVariants as kind
 use Rattle.package_answers.specs.Errors.{IsFaultAt, IsPartError, package_errors_json}
 use Rattle.package_answers.specs.declared.errors.PackageErrors.{PackageErrors}
@@ -48,6 +48,16 @@ reference_json read =
     (member (codes "package") (package_json read.reference.req)
     (member (codes "path") (text_or_null read.reference.sub_path) no_members))))
 
+-- ---- failures
+
+-- what is wrong: with the package what its parser reports, else one of two messages; none for out of memory
+abbrev pub reference_failure : ReferenceError → Failure
+reference_failure (reference.NotExpectedScheme registry) = Some (codes "Neither jsr: nor npm: stands in front.", None)
+reference_failure (reference.Invalid error) = parts_failure error.source
+reference_failure (reference.InvalidPathWithVersion error) =
+    Some (codes "The version stands in the path; write " ++ (scheme_of error.kind ++ error.suggested), None)
+reference_failure reference.Memory = None
+
 -- ---- the question
 
 -- JSR if the text begins with its scheme, else npm
@@ -61,29 +71,18 @@ IsRegistryOutcome text (Ok read) = IsRegistryOf text read.kind × IsReferenceOut
 IsRegistryOutcome text (Err fault) =
     (registry : PackageKind) × IsRegistryOf text registry × IsReferenceOutcome registry text (Err fault)
 
+-- the failure is that of an error of its registry that reports the fault
+abbrev pub ShowsReferenceFault : List ℕ → ReferenceFault → Failure → Type 0
+ShowsReferenceFault text fault failure = (registry : PackageKind) × (e : PackageReqReferenceParseError) × IsRegistryOf text registry
+    × ReportsReference registry text fault e × (failure ≡ reference_failure (unboxed e))
+
 -- the reference to a package of that registry that a text parses to
 abbrev pub IsReference : List ℕ → Result Reference Fault → Type 0
-IsReference text = Parsed kind.Reference 0 (IsRegistryOutcome text)
+IsReference text = Parsed kind.Reference 0 (ReadBy (IsRegistryOutcome text) (ShowsReferenceFault text))
 
 -- its parts
 abbrev pub ReferenceParts : List ℕ → Result (List ℕ) Fault → Type 0
 ReferenceParts text = Given (IsReference text) (λ read. Is (compact_text (reference_json read)))
-
--- ---- failures
-
--- what is wrong: with the package what its parser reports, else one of two messages; none for out of memory
-abbrev pub reference_failure : ReferenceError → Failure
-reference_failure (reference.NotExpectedScheme registry) = Some (codes "Neither jsr: nor npm: stands in front.", None)
-reference_failure (reference.Invalid error) = parts_failure error.source
-reference_failure (reference.InvalidPathWithVersion error) =
-    Some (codes "The version stands in the path; write " ++ (scheme_of error.kind ++ error.suggested), None)
-reference_failure reference.Memory = None
-
--- the failure is that of the text's first fault, or out of memory
-abbrev pub IsReferenceFailure : List ℕ → Failure → Type 0
-IsReferenceFailure text failure = (failure ≡ None)
-    ⊎ ((registry : PackageKind) × (error : PackageReqReferenceParseError) × IsRegistryOf text registry
-    × IsReferenceRejection registry text error × (failure ≡ reference_failure (unboxed error)))
 
 -- ---- places of errors
 

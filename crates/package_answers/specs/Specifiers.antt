@@ -1,13 +1,12 @@
 -- References to one version of a package, and dependencies, with their parts as JSON.
-use Rattle.std.specs.Prelude.{◌≡◌, ◌⊎◌, ℕ, List, None, Some, Result, Ok, Err, codes}
+use Rattle.std.specs.Prelude.{◌≡◌, ℕ, List, None, Some, Result, Ok, Err, codes}
 use Rattle.serde_json.specs.Data.{Data, member, no_members, object, string}
 use Rattle.serde_json.specs.Written.{compact_text}
-use Rattle.semver_base.specs.Failure.{rejection_message}
 use Rattle.semver_base.specs.declared.failure.Rejection.{Rejection}
 use Rattle.semver_req.specs.Parsers.{Failure}
 use Rattle.semver_req.specs.declared.common.values.Flavour.{Flavour}
 use Rattle.deno_semver.specs.DependencyText.{normal_dependency_text}
-use Rattle.deno_semver.specs.DependencyOutcome.{IsDependencyOutcome, IsDependencyRejection}
+use Rattle.deno_semver.specs.DependencyOutcome.{DependencyFault, IsDependencyOutcome, ReportsDependency}
 use Rattle.deno_semver.specs.NvReference.{IsNvReferenceOutcome}
 use Rattle.deno_semver.specs.declared.jsr.dependency.JsrDepPackageReq.{JsrDepPackageReq}
 use Rattle.deno_semver.specs.declared.jsr.dependency.JsrDepPackageReqParseError.{JsrDepPackageReqParseError}
@@ -16,8 +15,8 @@ use Rattle.deno_semver.specs.declared.package.values.PackageKind.{PackageKind}
 use Rattle.answers.specs.Asking.{Fault, Given, Is}
 use Rattle.package_answers.specs.Packages.{package_json, parts_failure}
 use Rattle.answers.specs.Object.{text_or_null}
-use Rattle.answers.specs.Reading.{Parsed}
-use Rattle.package_answers.specs.Names.{nv_json}
+use Rattle.answers.specs.Reading.{Parsed, ReadBy}
+use Rattle.package_answers.specs.Names.{ShowsRejection, nv_json}
 use Rattle.package_answers.specs.References.{IsRegistryOf, export_of, registry_text}
 use Rattle.answers.specs.declared.asking.Kind.TheVariants as kind
 use Rattle.package_answers.specs.declared.specifiers.VersionReference.{VersionReference}
@@ -31,24 +30,24 @@ dependency_json d =
     (member (codes "normal") (string (normal_dependency_text d))
     (member (codes "package") (package_json d.req) no_members)))
 
--- the dependency that a text parses to, with a grammar for its range
-abbrev pub IsDependency : Flavour → List ℕ → Result JsrDepPackageReq Fault → Type 0
-IsDependency f text = Parsed kind.Reference 0 (IsDependencyOutcome f text)
-
--- its parts
-abbrev pub DependencyParts : Flavour → List ℕ → Result (List ℕ) Fault → Type 0
-DependencyParts f text = Given (IsDependency f text) (λ d. Is (compact_text (dependency_json d)))
-
 -- what is wrong: with the package what its parser reports; none for out of memory
 abbrev pub dependency_failure : JsrDepPackageReqParseError → Failure
 dependency_failure (error.NotExpectedScheme scheme) = Some (codes "Neither jsr: nor npm: stands in front.", None)
 dependency_failure (error.PackageReqParse inner) = parts_failure inner.source
 dependency_failure error.Memory = None
 
--- the failure is that of the text's first fault, or out of memory
-abbrev pub IsDependencyFailure : Flavour → List ℕ → Failure → Type 0
-IsDependencyFailure f text failure = (failure ≡ None)
-    ⊎ ((e : JsrDepPackageReqParseError) × IsDependencyRejection f text e × (failure ≡ dependency_failure e))
+-- the failure is that of an error that reports the fault
+abbrev pub ShowsDependencyFault : Flavour → List ℕ → DependencyFault → Failure → Type 0
+ShowsDependencyFault f text fault failure =
+    (e : JsrDepPackageReqParseError) × ReportsDependency f text fault e × (failure ≡ dependency_failure e)
+
+-- the dependency that a text parses to, with a grammar for its range
+abbrev pub IsDependency : Flavour → List ℕ → Result JsrDepPackageReq Fault → Type 0
+IsDependency f text = Parsed kind.Reference 0 (ReadBy (IsDependencyOutcome f text) (ShowsDependencyFault f text))
+
+-- its parts
+abbrev pub DependencyParts : Flavour → List ℕ → Result (List ℕ) Fault → Type 0
+DependencyParts f text = Given (IsDependency f text) (λ d. Is (compact_text (dependency_json d)))
 
 -- ---- references to a version
 
@@ -68,14 +67,8 @@ IsPinnedOutcome text (Err fault) =
 
 -- the reference to a version of a package of that registry that a text parses to
 abbrev pub IsVersionReference : List ℕ → Result VersionReference Fault → Type 0
-IsVersionReference text = Parsed kind.Reference 0 (IsPinnedOutcome text)
+IsVersionReference text = Parsed kind.Reference 0 (ReadBy (IsPinnedOutcome text) ShowsRejection)
 
 -- its parts
 abbrev pub VersionReferenceParts : List ℕ → Result (List ℕ) Fault → Type 0
 VersionReferenceParts text = Given (IsVersionReference text) (λ read. Is (compact_text (version_reference_json read)))
-
--- the failure is that of the text's first fault, or out of memory
-abbrev pub IsVersionReferenceFailure : List ℕ → Failure → Type 0
-IsVersionReferenceFailure text failure = (failure ≡ None)
-    ⊎ ((registry : PackageKind) × (fault : Rejection) × IsRegistryOf text registry
-    × IsNvReferenceOutcome registry text (Err fault) × (failure ≡ Some (rejection_message fault, None)))

@@ -1,10 +1,9 @@
 //! The text of a name with a version, such as `@scope/name@1.2.3`.
 
-ghost use Rattle.std.specs.Prelude.{◌≡◌, ◌≢◌, ◌⊎◌, [], IfErr, IfOk, None, Some, string_bytes};
+ghost use Rattle.std.specs.Prelude.{◌≡◌, ◌≢◌, ◌⊎◌, [], IfOk, None, Some, string_bytes};
 ghost use Rattle.serde_json.specs.View.{view};
-ghost use Rattle.answers.specs.Asking.{IsAnswer, IsFailureAt};
-ghost use Rattle.answers.specs.declared.asking.Kind.TheVariants as kind;
-ghost use Rattle.package_answers.specs.Names.{IsNvFailure, NameWithVersionParts, nv_json};
+ghost use Rattle.answers.specs.Asking.{IsAnswer};
+ghost use Rattle.package_answers.specs.Names.{NameWithVersionParts, nv_json};
 
 use crate::packages::scope_and_name;
 use answers::asking::{Kind, Problem};
@@ -39,8 +38,7 @@ pub(crate) fn message_failure(alloc: Global, message: &str) -> ParseFailure
 
 /// Parses a name with a version, such as `@scope/name@1.2.3`, and returns its parts as the text of a JSON object.
 pub fn name_with_version_parts(alloc: Global, text: &str) -> Result<String, Problem>
-    ensures answer { IsAnswer (NameWithVersionParts text.now) (λ text. string_bytes text) result }
-    ensures failure { IfErr result (IsFailureAt kind.Package 0 (IsNvFailure text.now)) }
+    ensures { IsAnswer (NameWithVersionParts text.now) (λ text. string_bytes text) result }
 {
     let nv = match PackageNv::from_str(alloc, text) {
         Ok(nv) => nv,

@@ -5,10 +5,9 @@ ghost use Rattle.std.specs.Option.{option_copied};
 ghost use Rattle.serde_json.specs.View.{view};
 ghost use Rattle.deno_semver.specs.PackageOutcome.{BadVersion, PackageFault, IsPackageAnswer, IsPackageOutcome, IsPackageRejection, Reports};
 ghost use Rattle.deno_semver.specs.declared.package.values.PackageReq.{PackageReq};
-ghost use Rattle.answers.specs.Asking.{IsAnswer, IsFailureAt};
+ghost use Rattle.answers.specs.Asking.{IsAnswer};
 ghost use Rattle.package_answers.specs.Errors.{IsFaultAt, IsPartError};
-ghost use Rattle.package_answers.specs.Packages.{AreOfRange, ArePackageErrors, IsPackage, IsPackageErrorsText, IsPackageFailure, PackageParts, last_part, package_json, parts_failure, scope_part};
-ghost use Rattle.answers.specs.declared.asking.Kind.TheVariants as kind;
+ghost use Rattle.package_answers.specs.Packages.{AreOfRange, ArePackageErrors, IsPackage, IsPackageErrorsText, PackageParts, last_part, package_json, parts_failure, scope_part};
 
 use crate::errors::{PackageErrors, Part, PartError, errors_text};
 use answers::asking::{Kind, Problem};
@@ -20,6 +19,7 @@ use deno_semver::package::{
 use semver_base::lexical::after;
 use semver_req::common::values::Flavour;
 use semver_req::error_places::pieces::invalid_pieces_behind;
+use semver_req::laws::texts_are_rejected_for_one_reason;
 use serde_json::Value;
 use std::alloc::{AllocError, Global};
 
@@ -91,10 +91,9 @@ pub(crate) fn parts_failure(alloc: Global, error: PackageReqPartsParseError) -> 
 
 /// Parses a package, with this grammar for its range.
 pub fn read_package(alloc: Global, flavour: Flavour, text: &str) -> Result<PackageReq, Problem>
-    ensures answer { IsAnswer (IsPackage flavour text.now) (λ req. req) result }
-    ensures failure { IfErr result
-        (IsFailureAt kind.Package 0 (IsPackageFailure flavour text.now)) }
+    ensures { IsAnswer (IsPackage flavour text.now) (λ req. req) result }
 {
+    texts_are_rejected_for_one_reason();
     match parse(alloc, flavour, text) {
         Ok(req) => Ok(req),
         Err(error) => {
@@ -106,9 +105,7 @@ pub fn read_package(alloc: Global, flavour: Flavour, text: &str) -> Result<Packa
 
 /// Parses a package, and returns its parts as the text of a JSON object.
 pub fn package_parts(alloc: Global, flavour: Flavour, text: &str) -> Result<String, Problem>
-    ensures answer { IsAnswer (PackageParts flavour text.now) (λ text. string_bytes text) result }
-    ensures failure { IfErr result
-        (IsFailureAt kind.Package 0 (IsPackageFailure flavour text.now)) }
+    ensures { IsAnswer (PackageParts flavour text.now) (λ text. string_bytes text) result }
 {
     let req = read_package(alloc, flavour, text)?;
     Ok(json_text(alloc, package_json(alloc, &req))?)

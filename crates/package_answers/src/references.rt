@@ -5,9 +5,9 @@ ghost use Rattle.std.specs.Option.{option_copied};
 ghost use Rattle.serde_json.specs.View.{view};
 ghost use Rattle.deno_semver.specs.ReferenceOutcome.{IsReferenceAnswer, IsReferenceOutcome, IsReferenceRejection, ReferenceFault, unboxed};
 ghost use Rattle.deno_semver.specs.declared.package.reference.PackageReqReference.{PackageReqReference};
-ghost use Rattle.answers.specs.Asking.{IsAnswer, IsFailureAt};
+ghost use Rattle.answers.specs.Asking.{IsAnswer};
 ghost use Rattle.answers.specs.Object.{text_or_null};
-ghost use Rattle.package_answers.specs.References.{AreReferenceErrors, IsReference, IsReferenceErrorsText, IsReferenceFailure, IsRegistryOf, ReferenceParts, export_of, registry_text, reference_failure, reference_json};
+ghost use Rattle.package_answers.specs.References.{AreReferenceErrors, IsReference, IsReferenceErrorsText, IsRegistryOf, ReferenceParts, export_of, registry_text, reference_failure, reference_json};
 ghost use Rattle.answers.specs.declared.asking.Kind.TheVariants as kind;
 
 use crate::errors::{PackageErrors, Part, errors_text};
@@ -19,6 +19,7 @@ use deno_semver::jsr::{JsrPackageReqReference, normalized_export_name};
 use deno_semver::npm::NpmPackageReqReference;
 use deno_semver::package::{PackageKind, PackageReqReference, PackageReqReferenceParseError};
 use semver_req::common::values::Flavour;
+use semver_req::laws::texts_are_rejected_for_one_reason;
 use serde_json::Value;
 use std::alloc::{AllocError, Global};
 
@@ -152,10 +153,9 @@ pub(crate) fn reference_failure(
 /// Parses a reference, to a JSR package if the text begins with `jsr:`, else to an npm package, with the strict grammar for
 /// its range.
 pub fn read_reference(alloc: Global, text: &str) -> Result<Reference, Problem>
-    ensures answer { IsAnswer (IsReference text.now) (λ read. read) result }
-    ensures failure { IfErr result
-        (IsFailureAt kind.Reference 0 (IsReferenceFailure text.now)) }
+    ensures { IsAnswer (IsReference text.now) (λ read. read) result }
 {
+    texts_are_rejected_for_one_reason();
     let kind = registry_of(text);
     match parse(alloc, kind, text) {
         Ok(reference) => Ok(Reference { kind, reference }),
@@ -168,9 +168,7 @@ pub fn read_reference(alloc: Global, text: &str) -> Result<Reference, Problem>
 
 /// Parses a reference, and returns its parts as the text of a JSON object.
 pub fn reference_parts(alloc: Global, text: &str) -> Result<String, Problem>
-    ensures answer { IsAnswer (ReferenceParts text.now) (λ text. string_bytes text) result }
-    ensures failure { IfErr result
-        (IsFailureAt kind.Reference 0 (IsReferenceFailure text.now)) }
+    ensures { IsAnswer (ReferenceParts text.now) (λ text. string_bytes text) result }
 {
     let read = read_reference(alloc, text)?;
     Ok(json_text(alloc, reference_json(alloc, &read))?)

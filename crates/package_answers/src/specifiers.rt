@@ -6,8 +6,8 @@ ghost use Rattle.std.specs.Option.{option_copied};
 ghost use Rattle.semver_base.specs.declared.failure.Rejection.{Rejection};
 ghost use Rattle.deno_semver.specs.NvReference.{IsNvReferenceAnswer, IsNvReferenceOutcome, IsNvReferenceRejection};
 ghost use Rattle.deno_semver.specs.declared.package.nv_reference.PackageNvReference.{PackageNvReference};
-ghost use Rattle.answers.specs.Asking.{IsAnswer, IsFailureAt};
-ghost use Rattle.package_answers.specs.Specifiers.{DependencyParts, IsDependencyFailure, IsVersionReferenceFailure, VersionReferenceParts};
+ghost use Rattle.answers.specs.Asking.{IsAnswer};
+ghost use Rattle.package_answers.specs.Specifiers.{DependencyParts, VersionReferenceParts};
 ghost use Rattle.answers.specs.declared.asking.Kind.TheVariants as kind;
 
 use crate::names::{message_failure, nv_json};
@@ -20,15 +20,15 @@ use deno_semver::jsr::{JsrDepPackageReq, JsrDepPackageReqParseError, JsrPackageN
 use deno_semver::npm::NpmPackageNvReference;
 use deno_semver::package::{PackageKind, PackageNvReference, PackageNvReferenceParseError};
 use semver_req::common::values::Flavour;
+use semver_req::laws::texts_are_rejected_for_one_reason;
 use std::alloc::Global;
 
 /// Parses a dependency, with this grammar for its range, and returns its parts as the text of a JSON object.
 pub fn dependency_parts(alloc: Global, flavour: Flavour, text: &str) -> Result<String, Problem>
-    ensures answer { IsAnswer (DependencyParts flavour text.now)
+    ensures { IsAnswer (DependencyParts flavour text.now)
         (λ text. string_bytes text) result }
-    ensures failure { IfErr result
-        (IsFailureAt kind.Reference 0 (IsDependencyFailure flavour text.now)) }
 {
+    texts_are_rejected_for_one_reason();
     let parsed = match flavour {
         Flavour::Npm => JsrDepPackageReq::from_str_loose(alloc, text),
         Flavour::Normal => JsrDepPackageReq::from_str_normalized(alloc, text),
@@ -104,9 +104,7 @@ fn parse_reference(
 /// Parses a reference to a version, of a JSR package if the text begins with `jsr:`, else of an npm package, and returns its parts
 /// as the text of a JSON object.
 pub fn version_reference_parts(alloc: Global, text: &str) -> Result<String, Problem>
-    ensures answer { IsAnswer (VersionReferenceParts text.now) (λ text. string_bytes text) result }
-    ensures failure { IfErr result
-        (IsFailureAt kind.Reference 0 (IsVersionReferenceFailure text.now)) }
+    ensures { IsAnswer (VersionReferenceParts text.now) (λ text. string_bytes text) result }
 {
     let kind = registry_of(text);
     let read = match parse_reference(alloc, kind, text) {

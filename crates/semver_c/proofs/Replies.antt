@@ -40,7 +40,7 @@ module _ {E X : Type 0} (Asked : Result X CallFault → Type 0) (value : E → X
         only o (inl none) = inl (e ∙ ap (code_of coded) none)
         only o (inr is) = inr (e ∙ ap (code_of coded) is)
 
-    module _ {I : Type 0} (shown : X → List I) (old new : List I) (needed : ℕ) (code : ℤ) (t : IsReported coded shown (call_outcome value answer) old new needed code) where
+    module _ {I : Type 0} (shown : Result X CallFault → List I) (old new : List I) (needed : ℕ) (code : ℤ) (t : IsReported coded shown (call_outcome value answer) old new needed code) where
       memory_reported : call_outcome value answer ≡ Err memory → Reports coded shown (call_outcome value answer) code t.items → code ≡ no_memory
       memory_reported none (inl short) = short
       memory_reported none (inr reported) = reported.0 ∙ ap (code_of coded) none
@@ -85,7 +85,7 @@ module _ {E X : Type 0} (Asked : Result X CallFault → Type 0) (value : E → X
 
 -- ---- questions that may have several outcomes
 
-pub one_replied : {E X I : Type 0} (Asked : Result X CallFault → Type 0) (value : E → X) (answer : Result E Problem) → IsOneCallAnswer Asked value answer → (coded : X → Code) (shown : X → List I) (old new : List I) (needed : ℕ) (code : ℤ)
+pub one_replied : {E X I : Type 0} (Asked : Result X CallFault → Type 0) (value : E → X) (answer : Result E Problem) → IsOneCallAnswer Asked value answer → (coded : X → Code) (shown : Result X CallFault → List I) (old new : List I) (needed : ℕ) (code : ℤ)
     → IsReported coded shown (call_outcome value answer) old new needed code → IsOneReply Asked coded shown old new needed code
 one_replied {X = X} {I = I} Asked value answer h coded shown old new needed code t = record { items = t.items; placed_is = t.placed_is; is = is h t.reports }
   where

@@ -1,11 +1,10 @@
 -- The arguments of a call, in which a grammar is a number and a text is bytes, and why a call has no result.
 use Rattle.std.specs.Prelude.{◌≡◌, ◌⊎◌, ◌==◌, ◌<◌, ℕ, List, Result, Ok, Err, codes, if◌then◌else◌, IsUtf8}
-use Rattle.semver_base.specs.Failure.{message_of}
 use Rattle.semver_base.specs.declared.range.PreRelease.{PreRelease}
 use Rattle.semver_base.specs.declared.range.PreRelease.TheVariants.{Restricted, Admitted}
 use Rattle.semver_req.specs.declared.common.values.Flavour.{Flavour}
 use Rattle.semver_req.specs.declared.common.values.Flavour.TheVariants.{Npm, Normal, Specifier}
-use Rattle.answers.specs.Asking.{Fault, Invalid, IsOutcomeOf, OutOfMemory, failure_of, fault_of}
+use Rattle.answers.specs.Asking.{Fault, Invalid, IsOutcomeOf, OutOfMemory, fault_message, fault_of}
 use Rattle.semver_c.specs.declared.arguments.Problem.{Problem}
 use Rattle.semver_c.specs.declared.arguments.Problem.TheVariants as problem
 use Rattle.semver_c.specs.declared.arguments.Subject.{Subject}
@@ -51,15 +50,15 @@ pub data Called {X : Type 0} (Asked : Result X Fault → Type 0) : Result X Call
 
 -- ---- problems
 
--- the message of a problem
-abbrev pub problem_message : Problem → List ℕ
-problem_message (problem.Unanswered why) = message_of (failure_of why)
-problem_message problem.NoGrammar = codes "No grammar has this number."
-problem_message problem.NotUtf8 = codes "The text isn't valid UTF-8."
+-- what is said of it: of an invalid argument, what is wrong with it
+abbrev pub call_message : CallFault → List ℕ
+call_message (Unanswered fault) = fault_message fault
+call_message NoGrammar = codes "No grammar has this number."
+call_message NotUtf8 = codes "The text isn't valid UTF-8."
 
 -- the place of the argument that is invalid, among those of its kind; without one, the other place
 abbrev pub fault_place : CallFault → ℕ → ℕ
-fault_place (Unanswered (Invalid kind place)) other = place
+fault_place (Unanswered (Invalid kind place failure)) other = place
 fault_place (Unanswered OutOfMemory) other = other
 fault_place NoGrammar other = other
 fault_place NotUtf8 other = other

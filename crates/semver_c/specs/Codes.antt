@@ -10,7 +10,7 @@ use Rattle.answers.specs.declared.asking.Answer.TheVariants.{Value, Tag}
 use Rattle.answers.specs.declared.asking.Kind.{Kind}
 use Rattle.answers.specs.declared.asking.Kind.TheVariants as kind
 use Rattle.answers.specs.declared.questions.Best.{Best}
-use Rattle.semver_c.specs.Arguments.{CallFault, NoGrammar, NotUtf8, Unanswered, fault_place}
+use Rattle.semver_c.specs.Arguments.{CallFault, NoGrammar, NotUtf8, Unanswered, call_message, fault_place}
 use Rattle.semver_c.specs.declared.codes.Code.{Code}
 use Rattle.semver_c.specs.declared.codes.Code.TheVariants as code
 use Rattle.semver_c.specs.declared.questions.Numbers.{Numbers}
@@ -48,7 +48,7 @@ kind_code kind.Reference = code.InvalidRange
 
 -- the code of a fault
 abbrev pub fault_code : CallFault → Code
-fault_code (Unanswered (Invalid k place)) = kind_code k
+fault_code (Unanswered (Invalid k place failure)) = kind_code k
 fault_code (Unanswered OutOfMemory) = code.NoMemory
 fault_code NoGrammar = code.NoGrammar
 fault_code NotUtf8 = code.NotUtf8
@@ -171,25 +171,29 @@ pub record IsPlaced {I : Type 0} (items old new : List I) (needed : ℕ) : Type 
   pub new_is : new ≡ placed items old
   pub needed_is : needed ≡ length items
 
--- the items of a value; for a problem of a call that writes a text, its message
-abbrev pub AreItemsShown : {X I : Type 0} → (X → List I) → Result X CallFault → List I → Type 0
-AreItemsShown shown (Ok x) items = items ≡ shown x
-AreItemsShown shown (Err fault) items = Unit {0}
+-- the text of a value; for a problem, its message
+abbrev pub or_message : {X : Type 0} → (X → List ℕ) → Result X CallFault → List ℕ
+or_message shown (Ok x) = shown x
+or_message shown (Err fault) = call_message fault
+
+-- the items of a value; for a problem, none
+abbrev pub or_nothing : {X I : Type 0} → (X → List I) → Result X CallFault → List I
+or_nothing shown (Ok x) = shown x
+or_nothing shown (Err fault) = []
 
 -- the code and the items report the outcome, or that memory ran out
-abbrev pub Reports : {X I : Type 0} → (X → Code) → (X → List I) → Result X CallFault → ℤ → List I → Type 0
-Reports coded shown outcome code items =
-    (code ≡ no_memory) ⊎ ((code ≡ code_of coded outcome) × AreItemsShown shown outcome items)
+abbrev pub Reports : {X I : Type 0} → (X → Code) → (Result X CallFault → List I) → Result X CallFault → ℤ → List I → Type 0
+Reports coded shown outcome code items = (code ≡ no_memory) ⊎ ((code ≡ code_of coded outcome) × (items ≡ shown outcome))
 
 -- items are placed that report the outcome, together with the code
-pub record IsReported {X I : Type 0} (coded : X → Code) (shown : X → List I) (outcome : Result X CallFault)
+pub record IsReported {X I : Type 0} (coded : X → Code) (shown : Result X CallFault → List I) (outcome : Result X CallFault)
     (old new : List I) (needed : ℕ) (code : ℤ) : Type 0 where
   pub items : List I
   pub placed_is : IsPlaced items old new needed
   pub reports : Reports coded shown outcome code items
 
 -- items are placed that report the question's outcome, together with the code, and each of its outcomes is so reported
-pub record IsReply {X I : Type 0} (Asked : Result X CallFault → Type 0) (coded : X → Code) (shown : X → List I)
+pub record IsReply {X I : Type 0} (Asked : Result X CallFault → Type 0) (coded : X → Code) (shown : Result X CallFault → List I)
     (old new : List I) (needed : ℕ) (code : ℤ) : Type 0 where
   pub items : List I
   pub placed_is : IsPlaced items old new needed
@@ -198,7 +202,7 @@ pub record IsReply {X I : Type 0} (Asked : Result X CallFault → Type 0) (coded
   pub only : (outcome : Result X CallFault) → Asked outcome → Reports coded shown outcome code items
 
 -- items are placed that report one outcome of the question, together with the code
-pub record IsOneReply {X I : Type 0} (Asked : Result X CallFault → Type 0) (coded : X → Code) (shown : X → List I)
+pub record IsOneReply {X I : Type 0} (Asked : Result X CallFault → Type 0) (coded : X → Code) (shown : Result X CallFault → List I)
     (old new : List I) (needed : ℕ) (code : ℤ) : Type 0 where
   pub items : List I
   pub placed_is : IsPlaced items old new needed

@@ -18,7 +18,7 @@ use Rattle.semver_c.specs.declared.handles.version_list.VersionList.{VersionList
 use Rattle.semver_c.specs.Arguments.{CallFault, pre_release_by}
 use Rattle.semver_c.specs.declared.codes.Code.{Code}
 use Rattle.semver_c.specs.declared.codes.Code.TheVariants as code
-use Rattle.semver_c.specs.Codes.{IsReply, always_yes, bool_code, fault_code, filter_code, filter_numbers, match_code, no_memory, number_of, order_code, place_code, place_or, yes}
+use Rattle.semver_c.specs.Codes.{IsReply, always_yes, bool_code, fault_code, filter_code, filter_numbers, match_code, no_memory, number_of, or_nothing, order_code, place_code, place_or, yes}
 
 -- the value of the outcome is held, with the code 1; without one nothing is held, and the code is that of the problem
 abbrev pub HoldsOutcome : {X : Type 0} → Result X CallFault → Option X → ℤ → Type 0
@@ -70,7 +70,7 @@ lines_of None = None
 -- which of the versions match a range
 abbrev pub IsHeldFilter : ℕ → Option VersionList → Option Requirement → List ℤ → List ℤ → ℕ → ℤ → Type 0
 IsHeldFilter number (Some list) (Some req) old new needed code =
-    IsReply (Is (list_matches (pre_release_by number) req.inner (list_lines list))) filter_code filter_numbers old new needed code
+    IsReply (Is (list_matches (pre_release_by number) req.inner (list_lines list))) filter_code (or_nothing filter_numbers) old new needed code
 IsHeldFilter number list requirement old new needed code = Unit {0}
 
 -- at this end of the order, the best match among lines: YES and its place, or NO
@@ -96,5 +96,5 @@ IsHeldBest end number list requirement old new returned = Unit {0}
 -- in which order the versions stand
 abbrev pub IsHeldSort : Option VersionList → List ℕ → List ℕ → ℕ → ℤ → Type 0
 IsHeldSort (Some list) old new needed returned =
-    IsReply (SortedLines Ascending (list_lines list)) always_yes (λ places. places) old new needed returned
+    IsReply (SortedLines Ascending (list_lines list)) always_yes (or_nothing (λ places. places)) old new needed returned
 IsHeldSort None old new needed returned = Unit {0}

@@ -3,7 +3,7 @@
 ghost use Rattle.std.specs.Prelude.{◌≡◌, ◌<◌, IfOk, IsUtf8, map, MatchResult};
 ghost use Rattle.std.specs.Str.Lines.{lines};
 ghost use Rattle.answers.specs.declared.asking.Problem.TheVariants as unanswered;
-ghost use Rattle.semver_c.specs.Arguments.{call_fault, fault_place, grammar_number, pre_release_by, problem_message};
+ghost use Rattle.semver_c.specs.Arguments.{call_fault, call_message, fault_place, grammar_number, pre_release_by};
 ghost use Rattle.semver_c.specs.Codes.{fault_code};
 ghost use Rattle.semver_c.specs.declared.arguments.Problem.TheVariants as problem;
 
@@ -69,7 +69,7 @@ impl Problem {
 
     /// What the problem is.
     pub fn message(&self) -> &str
-        ensures { result.now ≡ problem_message self.now }
+        ensures { result.now ≡ call_message (call_fault self.now) }
     {
         match self {
             Problem::Unanswered(why) => why.message(),

@@ -15,7 +15,7 @@ ghost use Rattle.semver_req.specs.Tag.{is_valid_tag};
 ghost use Rattle.deno_semver.specs.ReqOrder.{inner_cmp};
 ghost use Rattle.answers.specs.Asking.{Is};
 ghost use Rattle.answers.specs.declared.questions.End.TheVariants as end;
-ghost use Rattle.semver_c.specs.Codes.{IsCode, IsOneReply, IsPlaceReply, IsPlaced, IsReply, IsUntouched, IsUntouchedWithoutValue, always_yes, as_place, best_code, best_place, bool_code, filter_code, filter_numbers, found_code, found_text, lowest_code, lowest_text, match_code, no_place, no_text, number_of, order_code, text_code, text_of, three_numbers, unqualified_code, yes};
+ghost use Rattle.semver_c.specs.Codes.{IsCode, IsOneReply, IsPlaceReply, IsPlaced, IsReply, IsUntouched, IsUntouchedWithoutValue, always_yes, as_place, best_code, best_place, bool_code, filter_code, filter_numbers, found_code, found_text, lowest_code, lowest_text, match_code, no_place, no_text, number_of, or_message, or_nothing, order_code, text_code, text_of, three_numbers, unqualified_code, yes};
 ghost use Rattle.semver_c.specs.Held.{IsHeld, IsHeldBest, IsHeldEqual, IsHeldFilter, IsHeldMatch, IsHeldOrder, IsHeldOverlap, IsHeldSort, lines_of, package_held};
 ghost use Rattle.semver_c.specs.Questions.{BestLine, CanonicalBy, CommonBy, CommonOfAll, DependencyBy, DisplayedOf, EquivalentBy, ErrorsBy, ExplainsBy, ExportNameOf, Filters, Fits, LowestBy, MatchesHeld, NameWithVersionOf, NumbersOf, OrdersOf, OutsideBy, OverlapsBy, PackageBy, PackageErrorsBy, PackageOf, RangeBy, RangesBy, ReferenceErrorsOf, ReferenceOf, SortsOf, TagBy, VersionErrorOf, VersionListOf, VersionOf, VersionPartsOf, VersionReferenceOf, WhyBy};
 ghost use Rattle.semver_c.specs.declared.codes.Code.TheVariants as code;
@@ -63,7 +63,7 @@ pub extern "C" fn semver_fits(
     out: &mut [u8],
     needed: &mut usize,
 ) -> i32
-    ensures { IsReply (Fits pre_releases grammar range.now version.now) match_code no_text
+    ensures { IsReply (Fits pre_releases grammar range.now version.now) match_code (or_message no_text)
         out.old out.new needed.new result }
 {
     match fits(alloc, grammar, range, version, pre_releases) {
@@ -126,7 +126,7 @@ pub extern "C" fn semver_within(
     place: &mut usize,
 ) -> i32
     ensures answer { IsReply (OutsideBy pre_releases grammar one.now other.now)
-        (lowest_code code.No code.Yes) lowest_text
+        (lowest_code code.No code.Yes) (or_message lowest_text)
         out.old out.new needed.new result }
     ensures place { IsPlaceReply (OutsideBy pre_releases grammar one.now other.now) no_place
         place.old place.new result }
@@ -172,7 +172,7 @@ pub extern "C" fn semver_common(
     place: &mut usize,
 ) -> i32
     ensures answer { IsReply (CommonBy pre_releases grammar one.now other.now)
-        (lowest_code code.Yes code.No) lowest_text
+        (lowest_code code.Yes code.No) (or_message lowest_text)
         out.old out.new needed.new result }
     ensures place { IsPlaceReply (CommonBy pre_releases grammar one.now other.now) no_place
         place.old place.new result }
@@ -195,7 +195,7 @@ pub extern "C" fn semver_common_all(
     place: &mut usize,
 ) -> i32
     ensures answer { IsReply (CommonOfAll pre_releases grammar ranges.now)
-        (lowest_code code.Yes code.No) lowest_text
+        (lowest_code code.Yes code.No) (or_message lowest_text)
         out.old out.new needed.new result }
     ensures place { IsPlaceReply (CommonOfAll pre_releases grammar ranges.now) no_place
         place.old place.new result }
@@ -216,7 +216,7 @@ pub extern "C" fn semver_min_version(
     needed: &mut usize,
 ) -> i32
     ensures { IsReply (LowestBy pre_releases grammar range.now)
-        (lowest_code code.Yes code.No) lowest_text
+        (lowest_code code.Yes code.No) (or_message lowest_text)
         out.old out.new needed.new result }
 {
     let answer = lowest(alloc, grammar, range, pre_releases);
@@ -232,7 +232,7 @@ pub extern "C" fn semver_normal(
     out: &mut [u8],
     needed: &mut usize,
 ) -> i32
-    ensures { IsReply (CanonicalBy grammar range.now) always_yes (λ text. text)
+    ensures { IsReply (CanonicalBy grammar range.now) always_yes (or_message (λ text. text))
         out.old out.new needed.new result }
 {
     report_text(canonical_form(alloc, grammar, range), out, needed)
@@ -247,7 +247,7 @@ pub extern "C" fn semver_is_tag(
     out: &mut [u8],
     needed: &mut usize,
 ) -> i32
-    ensures { IsReply (TagBy grammar range.now) bool_code no_text
+    ensures { IsReply (TagBy grammar range.now) bool_code (or_message no_text)
         out.old out.new needed.new result }
 {
     match names_tag(alloc, grammar, range) {
@@ -267,7 +267,7 @@ pub extern "C" fn semver_version(
     out: &mut [u8],
     needed: &mut usize,
 ) -> i32
-    ensures { IsReply (DisplayedOf version.now) always_yes (λ text. text)
+    ensures { IsReply (DisplayedOf version.now) always_yes (or_message (λ text. text))
         out.old out.new needed.new result }
 {
     report_text(displayed_version(alloc, version), out, needed)
@@ -299,7 +299,7 @@ pub extern "C" fn semver_filter(
     needed: &mut usize,
 ) -> i32
     ensures answer { IsReply (Filters pre_releases grammar range.now versions.now)
-        filter_code filter_numbers
+        filter_code (or_nothing filter_numbers)
         answers.old answers.new needed.new result }
     ensures no_answers { IsUntouched answers.old answers.new needed.new result }
 {
@@ -360,7 +360,7 @@ pub extern "C" fn semver_sort(
     needed: &mut usize,
     place: &mut usize,
 ) -> i32
-    ensures answer { IsReply (SortsOf versions.now) always_yes (λ places. places)
+    ensures answer { IsReply (SortsOf versions.now) always_yes (or_nothing (λ places. places))
         places.old places.new needed.new result }
     ensures no_places { IsUntouched places.old places.new needed.new result }
     ensures place { IsPlaceReply (SortsOf versions.now) no_place place.old place.new result }
@@ -379,7 +379,7 @@ pub extern "C" fn semver_package(
     out: &mut [u8],
     needed: &mut usize,
 ) -> i32
-    ensures { IsReply (PackageBy grammar text.now) always_yes (λ text. text)
+    ensures { IsReply (PackageBy grammar text.now) always_yes (or_message (λ text. text))
         out.old out.new needed.new result }
 {
     report_text(package_of(alloc, grammar, text), out, needed)
@@ -396,7 +396,7 @@ pub extern "C" fn semver_why(
     out: &mut [u8],
     needed: &mut usize,
 ) -> i32
-    ensures { IsOneReply (WhyBy what grammar text.now) found_code found_text
+    ensures { IsOneReply (WhyBy what grammar text.now) found_code (or_message found_text)
         out.old out.new needed.new result }
 {
     match why_invalid(alloc, what, grammar, text) {
@@ -420,7 +420,7 @@ pub extern "C" fn semver_reference(
     out: &mut [u8],
     needed: &mut usize,
 ) -> i32
-    ensures { IsReply (ReferenceOf text.now) always_yes (λ text. text)
+    ensures { IsReply (ReferenceOf text.now) always_yes (or_message (λ text. text))
         out.old out.new needed.new result }
 {
     report_text(reference_of(alloc, text), out, needed)
@@ -435,7 +435,7 @@ pub extern "C" fn semver_package_errors(
     out: &mut [u8],
     needed: &mut usize,
 ) -> i32
-    ensures { IsOneReply (PackageErrorsBy grammar text.now) always_yes (λ text. text)
+    ensures { IsOneReply (PackageErrorsBy grammar text.now) always_yes (or_message (λ text. text))
         out.old out.new needed.new result }
 {
     report_text(package_errors_of(alloc, grammar, text), out, needed)
@@ -449,7 +449,7 @@ pub extern "C" fn semver_reference_errors(
     out: &mut [u8],
     needed: &mut usize,
 ) -> i32
-    ensures { IsOneReply (ReferenceErrorsOf text.now) always_yes (λ text. text)
+    ensures { IsOneReply (ReferenceErrorsOf text.now) always_yes (or_message (λ text. text))
         out.old out.new needed.new result }
 {
     report_text(reference_errors_of(alloc, text), out, needed)
@@ -463,7 +463,7 @@ pub extern "C" fn semver_version_parts(
     out: &mut [u8],
     needed: &mut usize,
 ) -> i32
-    ensures { IsReply (VersionPartsOf version.now) always_yes (λ text. text)
+    ensures { IsReply (VersionPartsOf version.now) always_yes (or_message (λ text. text))
         out.old out.new needed.new result }
 {
     report_text(version_parts_of(alloc, version), out, needed)
@@ -478,7 +478,7 @@ pub extern "C" fn semver_version_numbers(
     numbers: &mut [u64],
     needed: &mut usize,
 ) -> i32
-    ensures answer { IsReply (NumbersOf version.now) unqualified_code three_numbers
+    ensures answer { IsReply (NumbersOf version.now) unqualified_code (or_nothing three_numbers)
         numbers.old numbers.new needed.new result }
     ensures no_numbers { IsUntouchedWithoutValue numbers.old numbers.new needed.new result }
 {
@@ -503,7 +503,7 @@ pub extern "C" fn semver_ranges(
     out: &mut [u8],
     needed: &mut usize,
 ) -> i32
-    ensures { IsReply (RangesBy grammar range.now) text_code text_of
+    ensures { IsReply (RangesBy grammar range.now) text_code (or_message text_of)
         out.old out.new needed.new result }
 {
     report_text_or_tag(ranges_of(alloc, grammar, range), out, needed)
@@ -519,7 +519,7 @@ pub extern "C" fn semver_explain(
     out: &mut [u8],
     needed: &mut usize,
 ) -> i32
-    ensures { IsOneReply (ExplainsBy pre_releases grammar range.now) text_code text_of
+    ensures { IsOneReply (ExplainsBy pre_releases grammar range.now) text_code (or_message text_of)
         out.old out.new needed.new result }
 {
     let answer = explanation_of(alloc, grammar, range, pre_releases);
@@ -535,7 +535,7 @@ pub extern "C" fn semver_errors(
     out: &mut [u8],
     needed: &mut usize,
 ) -> i32
-    ensures { IsOneReply (ErrorsBy grammar range.now) always_yes (λ text. text)
+    ensures { IsOneReply (ErrorsBy grammar range.now) always_yes (or_message (λ text. text))
         out.old out.new needed.new result }
 {
     report_text(errors_of(alloc, grammar, range), out, needed)
@@ -569,7 +569,7 @@ pub extern "C" fn semver_name_with_version(
     out: &mut [u8],
     needed: &mut usize,
 ) -> i32
-    ensures { IsReply (NameWithVersionOf text.now) always_yes (λ text. text)
+    ensures { IsReply (NameWithVersionOf text.now) always_yes (or_message (λ text. text))
         out.old out.new needed.new result }
 {
     report_text(name_with_version_of(alloc, text), out, needed)
@@ -583,7 +583,7 @@ pub extern "C" fn semver_version_reference(
     out: &mut [u8],
     needed: &mut usize,
 ) -> i32
-    ensures { IsReply (VersionReferenceOf text.now) always_yes (λ text. text)
+    ensures { IsReply (VersionReferenceOf text.now) always_yes (or_message (λ text. text))
         out.old out.new needed.new result }
 {
     report_text(version_reference_of(alloc, text), out, needed)
@@ -598,7 +598,7 @@ pub extern "C" fn semver_dependency(
     out: &mut [u8],
     needed: &mut usize,
 ) -> i32
-    ensures { IsReply (DependencyBy grammar text.now) always_yes (λ text. text)
+    ensures { IsReply (DependencyBy grammar text.now) always_yes (or_message (λ text. text))
         out.old out.new needed.new result }
 {
     report_text(dependency_of(alloc, grammar, text), out, needed)
@@ -612,7 +612,7 @@ pub extern "C" fn semver_export_name(
     out: &mut [u8],
     needed: &mut usize,
 ) -> i32
-    ensures { IsReply (ExportNameOf path.now) always_yes (λ text. text)
+    ensures { IsReply (ExportNameOf path.now) always_yes (or_message (λ text. text))
         out.old out.new needed.new result }
 {
     match export_name_of(alloc, path) {
@@ -846,7 +846,7 @@ pub extern "C" fn semver_req_normal(
     requires { Holds handle.old.value }
     ensures stays { handle.new.value ≡ handle.old.value }
     ensures text { IfSome handle.old.value (λ req. IsReply (Is (inner_text req.inner))
-        always_yes (λ text. text) out.old out.new needed.new result) }
+        always_yes (or_message (λ text. text)) out.old out.new needed.new result) }
 {
     let requirement = handle.take(alloc);
     let canonical = requirement
@@ -868,7 +868,7 @@ pub extern "C" fn semver_version_text(
     requires { Holds handle.old.value }
     ensures stays { handle.new.value ≡ handle.old.value }
     ensures text { IfSome handle.old.value (λ version. IsReply (Is (version_text version))
-        always_yes (λ text. text) out.old out.new needed.new result) }
+        always_yes (or_message (λ text. text)) out.old out.new needed.new result) }
 {
     let version = handle.take(alloc);
     let displayed = text_of_version(alloc, &*version).map_err(Problem::from);

@@ -2,8 +2,8 @@
 
 ghost use Rattle.std.specs.Prelude.{◌≡◌, string_bytes};
 ghost use Rattle.answers.specs.Filtering.{list_answer};
-ghost use Rattle.semver_c.specs.Arguments.{call_fault, call_outcome, problem_message, problem_place};
-ghost use Rattle.semver_c.specs.Codes.{IsPlaced, IsReported, IsUntouched, always_yes, best_code, best_place, code_of, fault_code, filter_code, filter_numbers, lowest_code, lowest_text, number_of, place_after, text_code, text_of};
+ghost use Rattle.semver_c.specs.Arguments.{call_fault, call_message, call_outcome, problem_place};
+ghost use Rattle.semver_c.specs.Codes.{IsPlaced, IsReported, IsUntouched, always_yes, best_code, best_place, code_of, fault_code, filter_code, filter_numbers, lowest_code, lowest_text, number_of, or_message, or_nothing, place_after, text_code, text_of};
 
 use crate::arguments::Problem;
 use crate::codes::Code;
@@ -42,7 +42,7 @@ pub fn put_place<T>(answer: &Result<T, Problem>, place: &mut usize)
 /// Reports a problem by its code, and its message in the buffer.
 pub fn report_problem(problem: &Problem, out: &mut [u8], needed: &mut usize) -> i32
     ensures code { result ≡ number_of (fault_code (call_fault problem.now)) }
-    ensures message { IsPlaced (problem_message problem.now) out.old out.new needed.new }
+    ensures message { IsPlaced (call_message (call_fault problem.now)) out.old out.new needed.new }
 {
     put(problem.message(), out, needed);
     problem.code().number()
@@ -50,7 +50,7 @@ pub fn report_problem(problem: &Problem, out: &mut [u8], needed: &mut usize) -> 
 
 /// Reports a text.
 pub fn report_text(answer: Result<String, Problem>, out: &mut [u8], needed: &mut usize) -> i32
-    ensures { IsReported always_yes (λ text. text) (call_outcome (λ text. string_bytes text) answer)
+    ensures { IsReported always_yes (or_message (λ text. text)) (call_outcome (λ text. string_bytes text) answer)
         out.old out.new needed.new result }
 {
     match answer {
@@ -68,7 +68,7 @@ pub fn report_text_or_tag(
     out: &mut [u8],
     needed: &mut usize,
 ) -> i32
-    ensures { IsReported text_code text_of
+    ensures { IsReported text_code (or_message text_of)
         (call_outcome (λ answer. list_answer (λ text. string_bytes text) answer) answer)
         out.old out.new needed.new result }
 {
@@ -94,7 +94,7 @@ pub fn report_lowest(
     out: &mut [u8],
     needed: &mut usize,
 ) -> i32
-    ensures { IsReported (lowest_code found nothing) lowest_text
+    ensures { IsReported (lowest_code found nothing) (or_message lowest_text)
         (call_outcome (λ answer. answer) answer) out.old out.new needed.new result }
 {
     match answer {
@@ -124,7 +124,7 @@ pub fn report_filter(
     out: &mut [i8],
     needed: &mut usize,
 ) -> i32
-    ensures reported { IsReported filter_code filter_numbers
+    ensures reported { IsReported filter_code (or_nothing filter_numbers)
         (call_outcome (λ answer. list_answer (λ list. list.items) answer) answer)
         out.old out.new needed.new result }
     ensures untouched { IsUntouched out.old out.new needed.new result }
@@ -158,7 +158,7 @@ pub fn report_places(
     out: &mut [usize],
     needed: &mut usize,
 ) -> i32
-    ensures reported { IsReported always_yes (λ places. places)
+    ensures reported { IsReported always_yes (or_nothing (λ places. places))
         (call_outcome (λ places. places.items) answer) out.old out.new needed.new result }
     ensures untouched { IsUntouched out.old out.new needed.new result }
 {

@@ -63,7 +63,7 @@ returns-in_err-canonical-in-normal c =
     let known = rw c.as_str-in-normal.ensures.value at c.in-Some.ensures in
     let p = err_from_is_err_and c.from_residual.result c.from_residual.ensures.1 in
     let why = c.in_err-canonical-in-normal.field-0.0 in
-    let outcome = rw c.as_str-in-normal-2.ensures.value at c.in_err-canonical-in-normal.ensures.answer in
+    let outcome = rw c.as_str-in-normal-2.ensures.value at c.in_err-canonical-in-normal.ensures in
     rw (p.1, p.2, all, command, two_texts string_bytes texts _ _ (grind (arith, nat_tests)) c.parser-item.is c.requirement-item.is)
     (normal_asked parser requirement (Err (problem.Unanswered why)) (by_parser parser (λ f. Prints Text (Canonical f requirement)) c.in-Some.flavour known (Err (problem.Unanswered why))
     (printed Text _ text_proper (Err (fault_of why)) outcome (Err (problem.Unanswered why)) refl)))
@@ -77,7 +77,7 @@ returns-in_ok-canonical-in-normal c =
     let requirement = string_bytes c.requirement-item.result in
     let known = rw c.as_str-in-normal.ensures.value at c.in-Some.ensures in
     let text = c.in_ok-canonical-in-normal.field-0 in
-    let outcome = rw c.as_str-in-normal-2.ensures.value at c.in_ok-canonical-in-normal.ensures.answer in
+    let outcome = rw c.as_str-in-normal-2.ensures.value at c.in_ok-canonical-in-normal.ensures in
     rw (all, command, two_texts string_bytes texts _ _ (grind (arith, nat_tests)) c.parser-item.is c.requirement-item.is)
     (normal_asked parser requirement (Ok (line.Text text)) (by_parser parser (λ f. Prints Text (Canonical f requirement)) c.in-Some.flavour known (Ok (line.Text text))
     (printed Text _ text_proper (Ok (string_bytes text)) outcome (Ok (line.Text text)) refl)))
@@ -101,7 +101,7 @@ returns-in_err-overlap-in-meet c =
     let all = first_text string_bytes c.args.arguments.now c.command-item.result (grind (arith, nat_tests)) c.command-item.is in
     let p = err_from_is_err_and c.from_residual-in_err-overlap-in-meet.result c.from_residual-in_err-overlap-in-meet.ensures.1 in
     let why = c.in_err-overlap-in-meet.field-0.0 in
-    let outcome = rw (c.as_str-in-meet.ensures.value, c.as_str-in-meet-2.ensures.value) at c.in_err-overlap-in-meet.ensures.answer in
+    let outcome = rw (c.as_str-in-meet.ensures.value, c.as_str-in-meet-2.ensures.value) at c.in_err-overlap-in-meet.ensures in
     rw (p.1, p.2, all, command, two_texts string_bytes texts _ _ (grind (arith, nat_tests)) c.one-item.is c.other-item.is)
     (meet_asked _ _ (Err (problem.Unanswered why)) (printed reported_whether _ whether_proper (Err (fault_of why)) outcome (Err (problem.Unanswered why)) refl))
 
@@ -110,6 +110,6 @@ returns-in_ok-overlap-in-meet c =
     let texts = take (length c.args.arguments.now - 1) (drop 1 c.args.arguments.now) in
     let command : string_bytes c.command-item.result ≡ codes "meet" = sym c.as_str.ensures.value ∙ c.in-meet.is in
     let all = first_text string_bytes c.args.arguments.now c.command-item.result (grind (arith, nat_tests)) c.command-item.is in
-    let outcome = rw (c.as_str-in-meet.ensures.value, c.as_str-in-meet-2.ensures.value) at c.in_ok-overlap-in-meet.ensures.answer in
+    let outcome = rw (c.as_str-in-meet.ensures.value, c.as_str-in-meet-2.ensures.value) at c.in_ok-overlap-in-meet.ensures in
     rw (all, command, two_texts string_bytes texts _ _ (grind (arith, nat_tests)) c.one-item.is c.other-item.is)
     (meet_asked _ _ (Ok c.whether.result) (printed reported_whether _ whether_proper (Ok c.in_ok-overlap-in-meet.overlap) outcome (Ok c.whether.result) c.whether.ensures))

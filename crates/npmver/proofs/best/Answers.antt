@@ -62,7 +62,7 @@ returns-in_err-answer c =
     let p = err_from_is_err_and c.from_residual-in_err-answer.result c.from_residual-in_err-answer.ensures.1 in
     let all : map (λ text. text.now) c.in_ok-versions.versions.items ≡ map string_bytes rest =
     rw c.in_ok-versions.was at (map_from_collect c.collect.result c.collect.ensures.ran (YieldsList-from_map_by _ (λ text. text.now) string_bytes (YieldsList-at c.map.ensures.source (YieldsList-from_slice rest cc)) c.map.ensures.closure (λ x r q k. search rules))) in
-    let outcome = rw (c.as_str-2.ensures.value, c.as_slice.ensures.value, all) at c.in_err-answer.ensures.answer in
+    let outcome = rw (c.as_str-2.ensures.value, c.as_slice.ensures.value, all) at c.in_err-answer.ensures in
     rw (p.1, p.2, two_first string_bytes c.args.arguments.now _ _ c.in-len2-up.len_at_least c.parser-item.is c.requirement-item.is)
     (best_asked parser requirement (map string_bytes rest) (grind (arith, nat_tests)) result (by_parser parser (λ f. Prints reported_best (BestMatch Highest Restricted f requirement (map string_bytes rest))) c.in-Some.flavour known result
     (printed reported_best _ best_proper (Err (fault_of why)) outcome result refl)))
@@ -91,7 +91,7 @@ returns c =
     let result : Result Line Problem = Ok c.match-answer.line in
     let all : map (λ text. text.now) c.in_ok-versions.versions.items ≡ map string_bytes rest =
     rw c.in_ok-versions.was at (map_from_collect c.collect.result c.collect.ensures.ran (YieldsList-from_map_by _ (λ text. text.now) string_bytes (YieldsList-at c.map.ensures.source (YieldsList-from_slice rest cc)) c.map.ensures.closure (λ x r q k. search rules))) in
-    let outcome = rw (c.as_str-2.ensures.value, c.as_slice.ensures.value, all) at c.in_ok-answer.ensures.answer in
+    let outcome = rw (c.as_str-2.ensures.value, c.as_slice.ensures.value, all) at c.in_ok-answer.ensures in
     rw (two_first string_bytes c.args.arguments.now _ _ c.in-len2-up.len_at_least c.parser-item.is c.requirement-item.is)
     (best_asked parser requirement (map string_bytes rest) (grind (arith, nat_tests)) result (by_parser parser (λ f. Prints reported_best (BestMatch Highest Restricted f requirement (map string_bytes rest))) c.in-Some.flavour known result
     (printed reported_best _ best_proper (Ok c.in_ok-answer.answer) outcome result is)))

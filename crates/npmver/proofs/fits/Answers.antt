@@ -36,7 +36,7 @@ returns-in_err-answer c =
     let known = rw c.as_str.ensures.value at c.in-Some.ensures in
     let p = err_from_is_err_and c.from_residual.result c.from_residual.ensures.1 in
     let why = c.in_err-answer.field-0.0 in
-    let outcome = rw (c.as_str-2.ensures.value, c.as_str-3.ensures.value) at c.in_err-answer.ensures.answer in
+    let outcome = rw (c.as_str-2.ensures.value, c.as_str-3.ensures.value) at c.in_err-answer.ensures in
     rw (p.1, p.2, three_texts string_bytes c.args.arguments.now _ _ _ (grind (arith, nat_tests)) c.parser-item.is c.requirement-item.is c.version-item.is)
     (fits_asked c.args.pre_release parser requirement version (Err (problem.Unanswered why)) (by_parser parser (λ f. Prints reported_match (Matches c.args.pre_release f requirement version)) c.in-Some.flavour known (Err (problem.Unanswered why))
     (printed reported_match _ match_proper (Err (fault_of why)) outcome (Err (problem.Unanswered why)) refl)))
@@ -48,7 +48,7 @@ returns c =
     let requirement = string_bytes c.requirement-item.result in
     let version = string_bytes c.version-item.result in
     let known = rw c.as_str.ensures.value at c.in-Some.ensures in
-    let outcome = rw (c.as_str-2.ensures.value, c.as_str-3.ensures.value) at c.in_ok-answer.ensures.answer in
+    let outcome = rw (c.as_str-2.ensures.value, c.as_str-3.ensures.value) at c.in_ok-answer.ensures in
     rw (three_texts string_bytes c.args.arguments.now _ _ _ (grind (arith, nat_tests)) c.parser-item.is c.requirement-item.is c.version-item.is)
     (fits_asked c.args.pre_release parser requirement version (Ok c.match-answer.line) (by_parser parser (λ f. Prints reported_match (Matches c.args.pre_release f requirement version)) c.in-Some.flavour known (Ok c.match-answer.line)
     (printed reported_match _ match_proper (Ok c.in_ok-answer.answer) outcome (Ok c.match-answer.line) is)))

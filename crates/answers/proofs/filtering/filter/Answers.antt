@@ -11,13 +11,13 @@ use Rattle.std.proofs.lemmas.Result.{err_from_is_err_and}
 use Rattle.answers.specs.AskingLaws.{by_value, by_fault}
 use Rattle.answers.proofs.filtering.filter.Goals as goal
 
-pub returns-in_err-range-clause-answer : goal.returns-in_err-range-clause-answer
-returns-in_err-range-clause-answer c =
+pub returns-in_err-range : goal.returns-in_err-range
+returns-in_err-range c =
     let p = err_from_is_err_and c.from_residual.result c.from_residual.ensures.1 in
     rw (p.1, p.2) (by_fault _ _ _ _ c.in_err-range.ensures.answer)
 
-pub returns-in-Some-clause-answer : goal.returns-in-Some-clause-answer
-returns-in-Some-clause-answer c =
+pub returns-in-Some : goal.returns-in-Some
+returns-in-Some c =
     by_value _ _ _ _ c.in_ok-range.ensures.answer _ (search rules)
 
 pub loop-text-init : goal.loop-text-init
@@ -35,8 +35,8 @@ loop-text-preserved c =
     subst (AreValues OutOfMemory Match 0 (texts_of (take (l.text-index + 1) c.args.version_texts.now))) (sym pushed)
     (value_more (λ text. text.now) OutOfMemory Match c.args.version_texts.now l.text-index _ l.answers.items answer c.len.result c.loop-text-test.true l.invariant at matches)
 
-pub returns-clause-answer : goal.returns-clause-answer
-returns-clause-answer c =
+pub returns : goal.returns
+returns c =
     let l = c.loop-text in
     let each = values_of_all (λ text. text.now) OutOfMemory (LineMatch (λ (v : Version). inner_means_with c.args.pre_release c.in_ok-range.range.inner v)) c.args.version_texts.now l.text-index l.answers.items c.loop-text-test.false l.invariant in
     by_value _ _ _ _ c.in_ok-range.ensures.answer _ (filter_answer c.args.pre_release c.in_ok-range.range.inner _ (sym c.tag.ensures ∙ ap option_copied c.in_default.is) l.answers.items each)

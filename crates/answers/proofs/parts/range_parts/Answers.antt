@@ -11,13 +11,13 @@ use Rattle.std.proofs.lemmas.Result.{err_from_is_err_and}
 use Rattle.answers.specs.AskingLaws.{by_value, by_fault, answered}
 use Rattle.answers.proofs.parts.range_parts.Goals as goal
 
-pub returns-in_err-range-clause-answer : goal.returns-in_err-range-clause-answer
-returns-in_err-range-clause-answer c =
+pub returns-in_err-range : goal.returns-in_err-range
+returns-in_err-range c =
     let p = err_from_is_err_and c.from_residual.result c.from_residual.ensures.1 in
     rw (p.1, p.2) (by_fault _ _ _ _ c.in_err-range.ensures.answer)
 
-pub returns-in-Tag-clause-answer : goal.returns-in-Tag-clause-answer
-returns-in-Tag-clause-answer c = by_value _ _ _ _ c.in_ok-range.ensures.answer _ (answered _ _ _ (search rules))
+pub returns-in-Tag : goal.returns-in-Tag
+returns-in-Tag c = by_value _ _ _ _ c.in_ok-range.ensures.answer _ (answered _ _ _ (search rules))
 
 pub loop-range-preserved : goal.loop-range-preserved
 loop-range-preserved c =
@@ -29,8 +29,8 @@ loop-range-preserved c =
     let pushed : c.push.new.self.items ≡ l.items.items ++ c.in_ok-bounds-in-RangeSet.field-0 ∷ [] = search rules in
     rw (more, map-append range_json taken (range ∷ []), pushed, map-append view l.items.items (c.in_ok-bounds-in-RangeSet.field-0 ∷ []), l.invariant, bounds) refl
 
-pub returns-clause-answer : goal.returns-clause-answer
-returns-clause-answer c =
+pub returns : goal.returns
+returns c =
     let l = c.loop-range in
     let ranges = c.as_slice-range-items.result.now in
     let all : map view l.items.items ≡ map range_json ranges = l.invariant ∙ ap (map range_json) (take_all l.range-index ranges c.loop-range-test.false) in

@@ -9,8 +9,8 @@ use Rattle.std.proofs.lemmas.Result.{err_from_is_err_and}
 use Rattle.answers.specs.AskingLaws.{by_value, by_fault}
 use Rattle.answers.proofs.questions.common_version.Goals as goal
 
-pub returns-in_err-ranges-clause-answer : goal.returns-in_err-ranges-clause-answer
-returns-in_err-ranges-clause-answer c =
+pub returns-in_err-ranges : goal.returns-in_err-ranges
+returns-in_err-ranges c =
     let p = err_from_is_err_and c.from_residual.result c.from_residual.ensures.1 in
     rw (p.1, p.2) (by_fault _ _ _ _ c.in_err-ranges.ensures.answer)
 
@@ -20,18 +20,18 @@ common_version_of_all-requires-clause-other_ranges c =
     let is : c.in_ok-ranges.ranges.items ≡ c.in-Some-split_first.first.now ∷ c.in-Some-split_first.others.now = search rules in
     none_is_later c.in-Some-split_first.first.now c.in-Some-split_first.others.now (subst (λ reqs. first_tag reqs ≡ None) is none)
 
-pub returns-in-Some-clause-answer : goal.returns-in-Some-clause-answer
-returns-in-Some-clause-answer c =
+pub returns-in-Some : goal.returns-in-Some
+returns-in-Some c =
     let tag : IsAnswer (CommonOf c.args.pre_release c.in_ok-ranges.ranges.items) (λ answer. answer) (Ok (Tag c.in_ok-from_str.field-0)) = search rules in
     by_value _ _ _ _ c.in_ok-ranges.ensures.answer _ tag
 
-pub returns-in_default-split_first-clause-answer : goal.returns-in_default-split_first-clause-answer
-returns-in_default-split_first-clause-answer c =
+pub returns-in_default-split_first : goal.returns-in_default-split_first
+returns-in_default-split_first c =
     let nothing : IsAnswer (CommonOf c.args.pre_release c.in_ok-ranges.ranges.items) (λ answer. answer) (Ok (Value None)) = search rules in
     by_value _ _ _ _ c.in_ok-ranges.ensures.answer _ nothing
 
-pub returns-clause-answer : goal.returns-clause-answer
-returns-clause-answer c =
+pub returns : goal.returns
+returns c =
     let first = c.in-Some-split_first.first.now in
     let others = c.in-Some-split_first.others.now in
     let lowest = c.in_ok-lowest.ensures in

@@ -30,23 +30,23 @@ equivalent_answer flag one other none no_other same h = record {
       inr (ap as_whether (same_whether same found.0 h found.1) ∙ sym found.2);
 }
 
-pub returns-in_err-one-clause-answer : goal.returns-in_err-one-clause-answer
-returns-in_err-one-clause-answer c =
+pub returns-in_err-one : goal.returns-in_err-one
+returns-in_err-one c =
     let p = err_from_is_err_and c.from_residual.result c.from_residual.ensures.1 in
     rw (p.1, p.2) (by_fault _ _ _ _ c.in_err-one.ensures.answer)
 
-pub returns-in_err-other-clause-answer : goal.returns-in_err-other-clause-answer
-returns-in_err-other-clause-answer c =
+pub returns-in_err-other : goal.returns-in_err-other
+returns-in_err-other c =
     let p = err_from_is_err_and c.from_residual-in_err-other.result c.from_residual-in_err-other.ensures.1 in
     rw (p.1, p.2) (by_value _ _ _ _ c.in_ok-one.ensures.answer _ (by_fault _ _ _ _ c.in_err-other.ensures.answer))
 
-pub returns-in-Some-clause-answer : goal.returns-in-Some-clause-answer
-returns-in-Some-clause-answer c =
+pub returns-in-Some : goal.returns-in-Some
+returns-in-Some c =
     let tag : IsAnswer (EquivalentOf c.args.pre_release c.in_ok-one.one c.in_ok-other.other) (λ answer. answer) (Ok (Tag c.in_ok-from_str.field-0)) = search rules in
     by_value _ _ _ _ c.in_ok-one.ensures.answer _ (by_value _ _ _ _ c.in_ok-other.ensures.answer _ tag)
 
-pub returns-clause-answer : goal.returns-clause-answer
-returns-clause-answer c =
+pub returns : goal.returns
+returns c =
     let none : tag_of c.in_ok-one.one.inner ≡ None = search rules in
     let no_other : tag_of c.in_ok-other.other.inner ≡ None = search rules in
     let same = equivalent_answer c.args.pre_release c.in_ok-one.one c.in_ok-other.other none no_other c.in_ok-same.same (c.in_ok-same.ensures.exact c.in_ok-one.ensures.read c.in_ok-other.ensures.read) in

@@ -1,12 +1,10 @@
-use Rattle.std.proofs.Common.{◌≡◌, ◌+◌, ◌++◌, ◌∷◌, ◌∙◌, [], length, rules, subst, sym, take}
+use Rattle.std.proofs.Common.{◌≡◌, ◌+◌, ◌++◌, ◌∷◌, [], length, rules, subst, sym, take}
 use Rattle.std.proofs.lemmas.Result.{err_from_is_err_and}
 use Rattle.semver_req.specs.Parsers.{AreReadOrTags}
-use Rattle.semver_req.specs.TextRejection.{IsTextRejection}
 use Rattle.answers.specs.Asking.{OutOfMemory, fault_of}
 use Rattle.answers.specs.Reading.{IsRangeAt, texts_of}
-use Rattle.answers.specs.declared.asking.Kind.TheVariants as kind
 use Rattle.answers.proofs.Givens.{AreValues}
-use Rattle.answers.proofs.TextLists.{count_taken, failed_among, read_more, value_missing, value_more, values_of_all}
+use Rattle.answers.proofs.TextLists.{read_more, value_missing, value_more, values_of_all}
 use Rattle.answers.proofs.reading.ranges.Goals as goal
 
 pub loop-text-init : goal.loop-text-init
@@ -26,14 +24,6 @@ returns-in_err-range-clause-answer c =
     let p = err_from_is_err_and c.from_residual.result c.from_residual.ensures.1 in
     let at : c.len.result ≡ length l.all.items = search rules in
     rw (p.1, p.2) (value_missing (λ text. text.now) OutOfMemory (IsRangeAt c.args.flavour) c.args.texts.now l.text-index _ l.all.items (fault_of c.in_err-range.field-0.0) c.len.result c.loop-text-test.true l.invariant.values at c.in_err-range.ensures.answer)
-
-pub returns-in_err-range-clause-failure : goal.returns-in_err-range-clause-failure
-returns-in_err-range-clause-failure c =
-    let l = c.loop-text in
-    let p = err_from_is_err_and c.from_residual.result c.from_residual.ensures.1 in
-    let at : c.len.result ≡ length l.all.items = search rules in
-    rw (p.1, p.2) (failed_among (λ text. text.now) kind.Range (IsTextRejection c.args.flavour) c.args.texts.now l.text-index _ c.len.result c.in_err-range.field-0.0 c.loop-text-test.true
-    (at ∙ count_taken (λ text. text.now) OutOfMemory (IsRangeAt c.args.flavour) c.args.texts.now l.text-index l.all.items c.loop-text-test.true l.invariant.values) c.in_err-range.ensures.failure)
 
 pub returns-clause-answer : goal.returns-clause-answer
 returns-clause-answer c = values_of_all (λ text. text.now) OutOfMemory (IsRangeAt c.args.flavour) c.args.texts.now c.loop-text.text-index c.loop-text.all.items c.loop-text-test.false c.loop-text.invariant.values

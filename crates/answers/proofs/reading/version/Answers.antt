@@ -1,17 +1,22 @@
-use Rattle.std.proofs.Common.{Ok, Err}
+use Rattle.std.proofs.Common.{◌≡◌, ◌∙◌, Ok, Err, sym, inr}
 use Rattle.std.specs.Str.{trim}
-use Rattle.semver_base.specs.VersionGrammar.{IsVersionOutcome}
+use Rattle.semver_base.specs.VersionGrammar.{IsVersionOutcome, version_failure}
 use Rattle.semver_base.specs.declared.failure.Rejection.{Rejection}
 use Rattle.semver_base.specs.declared.version.Version.{Version}
+use Rattle.semver_req.specs.Parsers.{Failure}
+use Rattle.answers.specs.ReadingLaws.{fault_read, value_read}
 use Rattle.answers.specs.declared.asking.Kind.TheVariants as kind
-use Rattle.answers.specs.ReadingLaws.{was_parsed, was_not_parsed, by_rejection}
 use Rattle.answers.proofs.reading.version.Goals as goal
 
-pub returns-in-Ok-clause-answer : goal.returns-in-Ok-clause-answer
-returns-in-Ok-clause-answer c =
-    was_parsed kind.Version c.args.place (IsVersionOutcome (trim c.args.text.now)) c.in-Ok.version c.in-Ok.ensures.read (λ (v : Version) q. c.in-Ok.ensures.answer (Ok v) q) (λ (fault : Rejection) q. c.in-Ok.ensures.answer (Err fault) q)
+pub returns-in-Ok : goal.returns-in-Ok
+returns-in-Ok c =
+    let text = trim c.args.text.now in
+    value_read kind.Version c.args.place (IsVersionOutcome text) (λ fault failure. failure ≡ version_failure fault text) c.in-Ok.version c.in-Ok.ensures.read (λ (v : Version) o. c.in-Ok.ensures.answer (Ok v) o)
+    (λ (fault : Rejection) o. c.in-Ok.ensures.answer (Err fault) o)
 
-pub returns-in-Err-clause-answer : goal.returns-in-Err-clause-answer
-returns-in-Err-clause-answer c =
-    rw c.of.ensures (was_not_parsed kind.Version c.args.place (IsVersionOutcome (trim c.args.text.now)) c.in-Err.error.source (by_rejection (IsVersionOutcome (trim c.args.text.now)) c.in-Err.error.source (λ none. none) c.in-Err.ensures.rejected)
-    (λ (v : Version) q. c.in-Err.ensures.answer (Ok v) q))
+pub returns-in-Err : goal.returns-in-Err
+returns-in-Err c =
+    let text = trim c.args.text.now in
+    let shows = λ (fault : Rejection) (failure : Failure). failure ≡ version_failure fault text in
+    rw c.of.ensures (fault_read kind.Version c.args.place (IsVersionOutcome text) shows c.in-Err.error.source (λ none. none) (λ fault is. inr is) (λ fault p q is same. is ∙ sym same) c.in-Err.ensures.rejected
+    (λ (v : Version) o. c.in-Err.ensures.answer (Ok v) o) (λ (fault : Rejection) o. c.in-Err.ensures.answer (Err fault) o))

@@ -1,12 +1,9 @@
-use Rattle.std.proofs.Common.{◌≡◌, ◌+◌, ◌++◌, ◌∷◌, ◌∙◌, [], length, rules, subst, sym, take}
+use Rattle.std.proofs.Common.{◌≡◌, ◌+◌, ◌++◌, ◌∷◌, [], length, rules, subst, sym, take}
 use Rattle.std.proofs.lemmas.Result.{err_from_is_err_and}
-use Rattle.std.specs.Str.{trim}
-use Rattle.semver_base.specs.VersionGrammar.{IsVersionRejection}
 use Rattle.answers.specs.Asking.{OutOfMemory, fault_of}
 use Rattle.answers.specs.Reading.{IsVersionAt, texts_of}
-use Rattle.answers.specs.declared.asking.Kind.TheVariants as kind
 use Rattle.answers.proofs.Givens.{AreValues}
-use Rattle.answers.proofs.TextLists.{count_taken, failed_among, value_missing, value_more, values_of_all}
+use Rattle.answers.proofs.TextLists.{value_missing, value_more, values_of_all}
 use Rattle.answers.proofs.reading.versions.Goals as goal
 
 pub loop-text-init : goal.loop-text-init
@@ -18,22 +15,14 @@ loop-text-preserved c =
     let at : c.len.result ≡ length l.all.items = search rules in
     let pushed : c.push.new.self.items ≡ l.all.items ++ c.in_ok-version.version ∷ [] = search rules in
     subst (AreValues OutOfMemory IsVersionAt 0 (texts_of (take (l.text-index + 1) c.args.texts.now))) (sym pushed)
-    (value_more (λ text. text.now) OutOfMemory IsVersionAt c.args.texts.now l.text-index _ l.all.items c.in_ok-version.version c.len.result c.loop-text-test.true l.invariant at c.in_ok-version.ensures.answer)
+    (value_more (λ text. text.now) OutOfMemory IsVersionAt c.args.texts.now l.text-index _ l.all.items c.in_ok-version.version c.len.result c.loop-text-test.true l.invariant at c.in_ok-version.ensures)
 
-pub returns-in_err-version-clause-answer : goal.returns-in_err-version-clause-answer
-returns-in_err-version-clause-answer c =
+pub returns-in_err-version : goal.returns-in_err-version
+returns-in_err-version c =
     let l = c.loop-text in
     let p = err_from_is_err_and c.from_residual.result c.from_residual.ensures.1 in
     let at : c.len.result ≡ length l.all.items = search rules in
-    rw (p.1, p.2) (value_missing (λ text. text.now) OutOfMemory IsVersionAt c.args.texts.now l.text-index _ l.all.items (fault_of c.in_err-version.field-0.0) c.len.result c.loop-text-test.true l.invariant at c.in_err-version.ensures.answer)
+    rw (p.1, p.2) (value_missing (λ text. text.now) OutOfMemory IsVersionAt c.args.texts.now l.text-index _ l.all.items (fault_of c.in_err-version.field-0.0) c.len.result c.loop-text-test.true l.invariant at c.in_err-version.ensures)
 
-pub returns-in_err-version-clause-failure : goal.returns-in_err-version-clause-failure
-returns-in_err-version-clause-failure c =
-    let l = c.loop-text in
-    let p = err_from_is_err_and c.from_residual.result c.from_residual.ensures.1 in
-    let at : c.len.result ≡ length l.all.items = search rules in
-    rw (p.1, p.2) (failed_among (λ text. text.now) kind.Version (λ text. IsVersionRejection (trim text)) c.args.texts.now l.text-index _ c.len.result c.in_err-version.field-0.0 c.loop-text-test.true
-    (at ∙ count_taken (λ text. text.now) OutOfMemory IsVersionAt c.args.texts.now l.text-index l.all.items c.loop-text-test.true l.invariant) c.in_err-version.ensures.failure)
-
-pub returns-clause-answer : goal.returns-clause-answer
-returns-clause-answer c = values_of_all (λ text. text.now) OutOfMemory IsVersionAt c.args.texts.now c.loop-text.text-index c.loop-text.all.items c.loop-text-test.false c.loop-text.invariant
+pub returns : goal.returns
+returns c = values_of_all (λ text. text.now) OutOfMemory IsVersionAt c.args.texts.now c.loop-text.text-index c.loop-text.all.items c.loop-text-test.false c.loop-text.invariant

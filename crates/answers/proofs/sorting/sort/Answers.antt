@@ -4,10 +4,10 @@ use Rattle.answers.proofs.Sorted.{places_answer}
 use Rattle.answers.specs.Asking.{OutOfMemory}
 use Rattle.answers.proofs.sorting.sort.Goals as goal
 
-pub returns-in_err-versions-clause-answer : goal.returns-in_err-versions-clause-answer
-returns-in_err-versions-clause-answer c =
+pub returns-in_err-versions : goal.returns-in_err-versions
+returns-in_err-versions c =
     let p = err_from_is_err_and c.from_residual.result c.from_residual.ensures.1 in
-    rw (p.1, p.2) (by_fault _ _ _ _ c.in_err-versions.ensures.answer)
+    rw (p.1, p.2) (by_fault _ _ _ _ c.in_err-versions.ensures)
 
-pub returns-clause-answer : goal.returns-clause-answer
-returns-clause-answer c = by_value _ _ _ _ c.in_ok-versions.ensures.answer _ (places_answer c.args.order OutOfMemory _ _ c.in_ok-sorted_places.ensures.sorted c.in_ok-sorted_places.ensures.only)
+pub returns : goal.returns
+returns c = by_value _ _ _ _ c.in_ok-versions.ensures _ (places_answer c.args.order OutOfMemory _ _ c.in_ok-sorted_places.ensures.sorted c.in_ok-sorted_places.ensures.only)

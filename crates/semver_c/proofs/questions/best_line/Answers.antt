@@ -22,8 +22,8 @@ returns-in_err-lines c =
 pub returns-in_err-best_match : goal.returns-in_err-best_match
 returns-in_err-best_match c =
     let why = c.in_err-best_match.field-0.0 in
-    by_grammar (λ answer. answer) c.args.grammar _ c.in_ok-flavour.flavour c.in_ok-flavour.ensures (c.from_residual-in_err-best_match.result) (by_text (λ answer. answer) c.args.range.now _ c.in_ok-range.range.now c.in_ok-range.ensures (c.from_residual-in_err-best_match.result) (by_text (λ answer. answer) c.args.versions.now _ c.in_ok-versions.versions.now c.in_ok-versions.ensures (c.from_residual-in_err-best_match.result) (by_problem (λ answer. answer) _ why (rw (c.as_slice.ensures.value, c.in_ok-lines.ensures, c.pre_release.ensures) at c.in_err-best_match.ensures.answer) c.from_residual-in_err-best_match.result (problem.Unanswered why) c.from_residual-in_err-best_match.ensures.1 refl)))
+    by_grammar (λ answer. answer) c.args.grammar _ c.in_ok-flavour.flavour c.in_ok-flavour.ensures (c.from_residual-in_err-best_match.result) (by_text (λ answer. answer) c.args.range.now _ c.in_ok-range.range.now c.in_ok-range.ensures (c.from_residual-in_err-best_match.result) (by_text (λ answer. answer) c.args.versions.now _ c.in_ok-versions.versions.now c.in_ok-versions.ensures (c.from_residual-in_err-best_match.result) (by_problem (λ answer. answer) _ why (rw (c.as_slice.ensures.value, c.in_ok-lines.ensures, c.pre_release.ensures) at c.in_err-best_match.ensures) c.from_residual-in_err-best_match.result (problem.Unanswered why) c.from_residual-in_err-best_match.ensures.1 refl)))
 
 pub returns : goal.returns
 returns c =
-    by_grammar (λ answer. answer) c.args.grammar _ c.in_ok-flavour.flavour c.in_ok-flavour.ensures (Ok c.in_ok-best_match.field-0) (by_text (λ answer. answer) c.args.range.now _ c.in_ok-range.range.now c.in_ok-range.ensures (Ok c.in_ok-best_match.field-0) (by_text (λ answer. answer) c.args.versions.now _ c.in_ok-versions.versions.now c.in_ok-versions.ensures (Ok c.in_ok-best_match.field-0) (by_answer (λ answer. answer) _ (Ok c.in_ok-best_match.field-0) (rw (c.as_slice.ensures.value, c.in_ok-lines.ensures, c.pre_release.ensures) at c.in_ok-best_match.ensures.answer) (Ok c.in_ok-best_match.field-0) refl)))
+    by_grammar (λ answer. answer) c.args.grammar _ c.in_ok-flavour.flavour c.in_ok-flavour.ensures (Ok c.in_ok-best_match.field-0) (by_text (λ answer. answer) c.args.range.now _ c.in_ok-range.range.now c.in_ok-range.ensures (Ok c.in_ok-best_match.field-0) (by_text (λ answer. answer) c.args.versions.now _ c.in_ok-versions.versions.now c.in_ok-versions.ensures (Ok c.in_ok-best_match.field-0) (by_answer (λ answer. answer) _ (Ok c.in_ok-best_match.field-0) (rw (c.as_slice.ensures.value, c.in_ok-lines.ensures, c.pre_release.ensures) at c.in_ok-best_match.ensures) (Ok c.in_ok-best_match.field-0) refl)))

@@ -14,8 +14,8 @@ returns-in_err-range c =
 pub returns-in_err-canonical : goal.returns-in_err-canonical
 returns-in_err-canonical c =
     let why = c.in_err-canonical.field-0.0 in
-    by_grammar string_bytes c.args.grammar _ c.in_ok-flavour.flavour c.in_ok-flavour.ensures (c.from_residual-in_err-canonical.result) (by_text string_bytes c.args.range.now _ c.in_ok-range.range.now c.in_ok-range.ensures (c.from_residual-in_err-canonical.result) (by_problem string_bytes _ why c.in_err-canonical.ensures.answer c.from_residual-in_err-canonical.result (problem.Unanswered why) c.from_residual-in_err-canonical.ensures.1 refl))
+    by_grammar string_bytes c.args.grammar _ c.in_ok-flavour.flavour c.in_ok-flavour.ensures (c.from_residual-in_err-canonical.result) (by_text string_bytes c.args.range.now _ c.in_ok-range.range.now c.in_ok-range.ensures (c.from_residual-in_err-canonical.result) (by_problem string_bytes _ why c.in_err-canonical.ensures c.from_residual-in_err-canonical.result (problem.Unanswered why) c.from_residual-in_err-canonical.ensures.1 refl))
 
 pub returns : goal.returns
 returns c =
-    by_grammar string_bytes c.args.grammar _ c.in_ok-flavour.flavour c.in_ok-flavour.ensures (Ok c.in_ok-canonical.field-0) (by_text string_bytes c.args.range.now _ c.in_ok-range.range.now c.in_ok-range.ensures (Ok c.in_ok-canonical.field-0) (by_answer string_bytes _ (Ok (string_bytes c.in_ok-canonical.field-0)) c.in_ok-canonical.ensures.answer (Ok c.in_ok-canonical.field-0) refl))
+    by_grammar string_bytes c.args.grammar _ c.in_ok-flavour.flavour c.in_ok-flavour.ensures (Ok c.in_ok-canonical.field-0) (by_text string_bytes c.args.range.now _ c.in_ok-range.range.now c.in_ok-range.ensures (Ok c.in_ok-canonical.field-0) (by_answer string_bytes _ (Ok (string_bytes c.in_ok-canonical.field-0)) c.in_ok-canonical.ensures (Ok c.in_ok-canonical.field-0) refl))

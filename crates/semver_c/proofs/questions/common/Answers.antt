@@ -18,8 +18,8 @@ returns-in_err-other c =
 pub returns-in_err-common_version : goal.returns-in_err-common_version
 returns-in_err-common_version c =
     let why = c.in_err-common_version.field-0.0 in
-    by_grammar (λ answer. answer) c.args.grammar _ c.in_ok-flavour.flavour c.in_ok-flavour.ensures (c.from_residual-in_err-common_version.result) (by_text (λ answer. answer) c.args.one.now _ c.in_ok-one.one.now c.in_ok-one.ensures (c.from_residual-in_err-common_version.result) (by_text (λ answer. answer) c.args.other.now _ c.in_ok-other.other.now c.in_ok-other.ensures (c.from_residual-in_err-common_version.result) (by_problem (λ answer. answer) _ why (rw (c.pre_release.ensures) at c.in_err-common_version.ensures.answer) c.from_residual-in_err-common_version.result (problem.Unanswered why) c.from_residual-in_err-common_version.ensures.1 refl)))
+    by_grammar (λ answer. answer) c.args.grammar _ c.in_ok-flavour.flavour c.in_ok-flavour.ensures (c.from_residual-in_err-common_version.result) (by_text (λ answer. answer) c.args.one.now _ c.in_ok-one.one.now c.in_ok-one.ensures (c.from_residual-in_err-common_version.result) (by_text (λ answer. answer) c.args.other.now _ c.in_ok-other.other.now c.in_ok-other.ensures (c.from_residual-in_err-common_version.result) (by_problem (λ answer. answer) _ why (rw (c.pre_release.ensures) at c.in_err-common_version.ensures) c.from_residual-in_err-common_version.result (problem.Unanswered why) c.from_residual-in_err-common_version.ensures.1 refl)))
 
 pub returns : goal.returns
 returns c =
-    by_grammar (λ answer. answer) c.args.grammar _ c.in_ok-flavour.flavour c.in_ok-flavour.ensures (Ok c.in_ok-common_version.field-0) (by_text (λ answer. answer) c.args.one.now _ c.in_ok-one.one.now c.in_ok-one.ensures (Ok c.in_ok-common_version.field-0) (by_text (λ answer. answer) c.args.other.now _ c.in_ok-other.other.now c.in_ok-other.ensures (Ok c.in_ok-common_version.field-0) (by_answer (λ answer. answer) _ (Ok c.in_ok-common_version.field-0) (rw (c.pre_release.ensures) at c.in_ok-common_version.ensures.answer) (Ok c.in_ok-common_version.field-0) refl)))
+    by_grammar (λ answer. answer) c.args.grammar _ c.in_ok-flavour.flavour c.in_ok-flavour.ensures (Ok c.in_ok-common_version.field-0) (by_text (λ answer. answer) c.args.one.now _ c.in_ok-one.one.now c.in_ok-one.ensures (Ok c.in_ok-common_version.field-0) (by_text (λ answer. answer) c.args.other.now _ c.in_ok-other.other.now c.in_ok-other.ensures (Ok c.in_ok-common_version.field-0) (by_answer (λ answer. answer) _ (Ok c.in_ok-common_version.field-0) (rw (c.pre_release.ensures) at c.in_ok-common_version.ensures) (Ok c.in_ok-common_version.field-0) refl)))

@@ -14,8 +14,8 @@ returns-in_err-text c =
 pub returns-in_err-dependency_parts : goal.returns-in_err-dependency_parts
 returns-in_err-dependency_parts c =
     let why = c.in_err-dependency_parts.field-0.0 in
-    by_grammar string_bytes c.args.grammar _ c.in_ok-flavour.flavour c.in_ok-flavour.ensures (c.from_residual-in_err-dependency_parts.result) (by_text string_bytes c.args.bytes.now _ c.in_ok-text.text.now c.in_ok-text.ensures (c.from_residual-in_err-dependency_parts.result) (by_problem string_bytes _ why c.in_err-dependency_parts.ensures.answer c.from_residual-in_err-dependency_parts.result (problem.Unanswered why) c.from_residual-in_err-dependency_parts.ensures.1 refl))
+    by_grammar string_bytes c.args.grammar _ c.in_ok-flavour.flavour c.in_ok-flavour.ensures (c.from_residual-in_err-dependency_parts.result) (by_text string_bytes c.args.bytes.now _ c.in_ok-text.text.now c.in_ok-text.ensures (c.from_residual-in_err-dependency_parts.result) (by_problem string_bytes _ why c.in_err-dependency_parts.ensures c.from_residual-in_err-dependency_parts.result (problem.Unanswered why) c.from_residual-in_err-dependency_parts.ensures.1 refl))
 
 pub returns : goal.returns
 returns c =
-    by_grammar string_bytes c.args.grammar _ c.in_ok-flavour.flavour c.in_ok-flavour.ensures (Ok c.in_ok-dependency_parts.field-0) (by_text string_bytes c.args.bytes.now _ c.in_ok-text.text.now c.in_ok-text.ensures (Ok c.in_ok-dependency_parts.field-0) (by_answer string_bytes _ (Ok (string_bytes c.in_ok-dependency_parts.field-0)) c.in_ok-dependency_parts.ensures.answer (Ok c.in_ok-dependency_parts.field-0) refl))
+    by_grammar string_bytes c.args.grammar _ c.in_ok-flavour.flavour c.in_ok-flavour.ensures (Ok c.in_ok-dependency_parts.field-0) (by_text string_bytes c.args.bytes.now _ c.in_ok-text.text.now c.in_ok-text.ensures (Ok c.in_ok-dependency_parts.field-0) (by_answer string_bytes _ (Ok (string_bytes c.in_ok-dependency_parts.field-0)) c.in_ok-dependency_parts.ensures (Ok c.in_ok-dependency_parts.field-0) refl))

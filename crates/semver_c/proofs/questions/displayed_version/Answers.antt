@@ -10,8 +10,8 @@ returns-in_err-version c =
 pub returns-in_err-displayed : goal.returns-in_err-displayed
 returns-in_err-displayed c =
     let why = c.in_err-displayed.field-0.0 in
-    by_text string_bytes c.args.version.now _ c.in_ok-version.version.now c.in_ok-version.ensures (c.from_residual-in_err-displayed.result) (by_problem string_bytes _ why c.in_err-displayed.ensures.answer c.from_residual-in_err-displayed.result (problem.Unanswered why) c.from_residual-in_err-displayed.ensures.1 refl)
+    by_text string_bytes c.args.version.now _ c.in_ok-version.version.now c.in_ok-version.ensures (c.from_residual-in_err-displayed.result) (by_problem string_bytes _ why c.in_err-displayed.ensures c.from_residual-in_err-displayed.result (problem.Unanswered why) c.from_residual-in_err-displayed.ensures.1 refl)
 
 pub returns : goal.returns
 returns c =
-    by_text string_bytes c.args.version.now _ c.in_ok-version.version.now c.in_ok-version.ensures (Ok c.in_ok-displayed.field-0) (by_answer string_bytes _ (Ok (string_bytes c.in_ok-displayed.field-0)) c.in_ok-displayed.ensures.answer (Ok c.in_ok-displayed.field-0) refl)
+    by_text string_bytes c.args.version.now _ c.in_ok-version.version.now c.in_ok-version.ensures (Ok c.in_ok-displayed.field-0) (by_answer string_bytes _ (Ok (string_bytes c.in_ok-displayed.field-0)) c.in_ok-displayed.ensures (Ok c.in_ok-displayed.field-0) refl)

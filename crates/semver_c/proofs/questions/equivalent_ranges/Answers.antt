@@ -18,8 +18,8 @@ returns-in_err-other c =
 pub returns-in_err-equivalent : goal.returns-in_err-equivalent
 returns-in_err-equivalent c =
     let why = c.in_err-equivalent.field-0.0 in
-    by_grammar (λ answer. answer) c.args.grammar _ c.in_ok-flavour.flavour c.in_ok-flavour.ensures (c.from_residual-in_err-equivalent.result) (by_text (λ answer. answer) c.args.one.now _ c.in_ok-one.one.now c.in_ok-one.ensures (c.from_residual-in_err-equivalent.result) (by_text (λ answer. answer) c.args.other.now _ c.in_ok-other.other.now c.in_ok-other.ensures (c.from_residual-in_err-equivalent.result) (by_problem (λ answer. answer) _ why (rw (c.pre_release.ensures) at c.in_err-equivalent.ensures.answer) c.from_residual-in_err-equivalent.result (problem.Unanswered why) c.from_residual-in_err-equivalent.ensures.1 refl)))
+    by_grammar (λ answer. answer) c.args.grammar _ c.in_ok-flavour.flavour c.in_ok-flavour.ensures (c.from_residual-in_err-equivalent.result) (by_text (λ answer. answer) c.args.one.now _ c.in_ok-one.one.now c.in_ok-one.ensures (c.from_residual-in_err-equivalent.result) (by_text (λ answer. answer) c.args.other.now _ c.in_ok-other.other.now c.in_ok-other.ensures (c.from_residual-in_err-equivalent.result) (by_problem (λ answer. answer) _ why (rw (c.pre_release.ensures) at c.in_err-equivalent.ensures) c.from_residual-in_err-equivalent.result (problem.Unanswered why) c.from_residual-in_err-equivalent.ensures.1 refl)))
 
 pub returns : goal.returns
 returns c =
-    by_grammar (λ answer. answer) c.args.grammar _ c.in_ok-flavour.flavour c.in_ok-flavour.ensures (Ok c.in_ok-equivalent.field-0) (by_text (λ answer. answer) c.args.one.now _ c.in_ok-one.one.now c.in_ok-one.ensures (Ok c.in_ok-equivalent.field-0) (by_text (λ answer. answer) c.args.other.now _ c.in_ok-other.other.now c.in_ok-other.ensures (Ok c.in_ok-equivalent.field-0) (by_answer (λ answer. answer) _ (Ok c.in_ok-equivalent.field-0) (rw (c.pre_release.ensures) at c.in_ok-equivalent.ensures.answer) (Ok c.in_ok-equivalent.field-0) refl)))
+    by_grammar (λ answer. answer) c.args.grammar _ c.in_ok-flavour.flavour c.in_ok-flavour.ensures (Ok c.in_ok-equivalent.field-0) (by_text (λ answer. answer) c.args.one.now _ c.in_ok-one.one.now c.in_ok-one.ensures (Ok c.in_ok-equivalent.field-0) (by_text (λ answer. answer) c.args.other.now _ c.in_ok-other.other.now c.in_ok-other.ensures (Ok c.in_ok-equivalent.field-0) (by_answer (λ answer. answer) _ (Ok c.in_ok-equivalent.field-0) (rw (c.pre_release.ensures) at c.in_ok-equivalent.ensures) (Ok c.in_ok-equivalent.field-0) refl)))

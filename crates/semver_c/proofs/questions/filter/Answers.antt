@@ -23,8 +23,8 @@ returns-in_err-lines c =
 pub returns-in_err-filter : goal.returns-in_err-filter
 returns-in_err-filter c =
     let why = c.in_err-filter.field-0.0 in
-    by_grammar (λ answer. list_answer (λ list. list.items) answer) c.args.grammar _ c.in_ok-flavour.flavour c.in_ok-flavour.ensures (c.from_residual-in_err-filter.result) (by_text (λ answer. list_answer (λ list. list.items) answer) c.args.range.now _ c.in_ok-range.range.now c.in_ok-range.ensures (c.from_residual-in_err-filter.result) (by_text (λ answer. list_answer (λ list. list.items) answer) c.args.versions.now _ c.in_ok-versions.versions.now c.in_ok-versions.ensures (c.from_residual-in_err-filter.result) (by_problem (λ answer. list_answer (λ list. list.items) answer) _ why (rw (c.as_slice.ensures.value, c.in_ok-lines.ensures, c.pre_release.ensures) at c.in_err-filter.ensures.answer) c.from_residual-in_err-filter.result (problem.Unanswered why) c.from_residual-in_err-filter.ensures.1 refl)))
+    by_grammar (λ answer. list_answer (λ list. list.items) answer) c.args.grammar _ c.in_ok-flavour.flavour c.in_ok-flavour.ensures (c.from_residual-in_err-filter.result) (by_text (λ answer. list_answer (λ list. list.items) answer) c.args.range.now _ c.in_ok-range.range.now c.in_ok-range.ensures (c.from_residual-in_err-filter.result) (by_text (λ answer. list_answer (λ list. list.items) answer) c.args.versions.now _ c.in_ok-versions.versions.now c.in_ok-versions.ensures (c.from_residual-in_err-filter.result) (by_problem (λ answer. list_answer (λ list. list.items) answer) _ why (rw (c.as_slice.ensures.value, c.in_ok-lines.ensures, c.pre_release.ensures) at c.in_err-filter.ensures) c.from_residual-in_err-filter.result (problem.Unanswered why) c.from_residual-in_err-filter.ensures.1 refl)))
 
 pub returns : goal.returns
 returns c =
-    by_grammar (λ answer. list_answer (λ list. list.items) answer) c.args.grammar _ c.in_ok-flavour.flavour c.in_ok-flavour.ensures (Ok c.in_ok-filter.field-0) (by_text (λ answer. list_answer (λ list. list.items) answer) c.args.range.now _ c.in_ok-range.range.now c.in_ok-range.ensures (Ok c.in_ok-filter.field-0) (by_text (λ answer. list_answer (λ list. list.items) answer) c.args.versions.now _ c.in_ok-versions.versions.now c.in_ok-versions.ensures (Ok c.in_ok-filter.field-0) (by_answer (λ answer. list_answer (λ list. list.items) answer) _ (Ok (list_answer (λ list. list.items) c.in_ok-filter.field-0)) (rw (c.as_slice.ensures.value, c.in_ok-lines.ensures, c.pre_release.ensures) at c.in_ok-filter.ensures.answer) (Ok c.in_ok-filter.field-0) refl)))
+    by_grammar (λ answer. list_answer (λ list. list.items) answer) c.args.grammar _ c.in_ok-flavour.flavour c.in_ok-flavour.ensures (Ok c.in_ok-filter.field-0) (by_text (λ answer. list_answer (λ list. list.items) answer) c.args.range.now _ c.in_ok-range.range.now c.in_ok-range.ensures (Ok c.in_ok-filter.field-0) (by_text (λ answer. list_answer (λ list. list.items) answer) c.args.versions.now _ c.in_ok-versions.versions.now c.in_ok-versions.ensures (Ok c.in_ok-filter.field-0) (by_answer (λ answer. list_answer (λ list. list.items) answer) _ (Ok (list_answer (λ list. list.items) c.in_ok-filter.field-0)) (rw (c.as_slice.ensures.value, c.in_ok-lines.ensures, c.pre_release.ensures) at c.in_ok-filter.ensures) (Ok c.in_ok-filter.field-0) refl)))

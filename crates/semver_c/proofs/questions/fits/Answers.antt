@@ -18,8 +18,8 @@ returns-in_err-version c =
 pub returns-in_err-matches : goal.returns-in_err-matches
 returns-in_err-matches c =
     let why = c.in_err-matches.field-0.0 in
-    by_grammar (λ answer. answer) c.args.grammar _ c.in_ok-flavour.flavour c.in_ok-flavour.ensures (c.from_residual-in_err-matches.result) (by_text (λ answer. answer) c.args.range.now _ c.in_ok-range.range.now c.in_ok-range.ensures (c.from_residual-in_err-matches.result) (by_text (λ answer. answer) c.args.version.now _ c.in_ok-version.version.now c.in_ok-version.ensures (c.from_residual-in_err-matches.result) (by_problem (λ answer. answer) _ why (rw (c.pre_release.ensures) at c.in_err-matches.ensures.answer) c.from_residual-in_err-matches.result (problem.Unanswered why) c.from_residual-in_err-matches.ensures.1 refl)))
+    by_grammar (λ answer. answer) c.args.grammar _ c.in_ok-flavour.flavour c.in_ok-flavour.ensures (c.from_residual-in_err-matches.result) (by_text (λ answer. answer) c.args.range.now _ c.in_ok-range.range.now c.in_ok-range.ensures (c.from_residual-in_err-matches.result) (by_text (λ answer. answer) c.args.version.now _ c.in_ok-version.version.now c.in_ok-version.ensures (c.from_residual-in_err-matches.result) (by_problem (λ answer. answer) _ why (rw (c.pre_release.ensures) at c.in_err-matches.ensures) c.from_residual-in_err-matches.result (problem.Unanswered why) c.from_residual-in_err-matches.ensures.1 refl)))
 
 pub returns : goal.returns
 returns c =
-    by_grammar (λ answer. answer) c.args.grammar _ c.in_ok-flavour.flavour c.in_ok-flavour.ensures (Ok c.in_ok-matches.field-0) (by_text (λ answer. answer) c.args.range.now _ c.in_ok-range.range.now c.in_ok-range.ensures (Ok c.in_ok-matches.field-0) (by_text (λ answer. answer) c.args.version.now _ c.in_ok-version.version.now c.in_ok-version.ensures (Ok c.in_ok-matches.field-0) (by_answer (λ answer. answer) _ (Ok c.in_ok-matches.field-0) (rw (c.pre_release.ensures) at c.in_ok-matches.ensures.answer) (Ok c.in_ok-matches.field-0) refl)))
+    by_grammar (λ answer. answer) c.args.grammar _ c.in_ok-flavour.flavour c.in_ok-flavour.ensures (Ok c.in_ok-matches.field-0) (by_text (λ answer. answer) c.args.range.now _ c.in_ok-range.range.now c.in_ok-range.ensures (Ok c.in_ok-matches.field-0) (by_text (λ answer. answer) c.args.version.now _ c.in_ok-version.version.now c.in_ok-version.ensures (Ok c.in_ok-matches.field-0) (by_answer (λ answer. answer) _ (Ok c.in_ok-matches.field-0) (rw (c.pre_release.ensures) at c.in_ok-matches.ensures) (Ok c.in_ok-matches.field-0) refl)))

@@ -13,8 +13,8 @@ returns-in_err-text c =
 pub returns-in_err-version : goal.returns-in_err-version
 returns-in_err-version c =
     let why = c.in_err-version.field-0.0 in
-    by_text (λ code. code) c.args.bytes.now _ c.in_ok-text.text.now c.in_ok-text.ensures (c.from_residual-in_err-version.result) (by_problem (λ code. code) _ why (given.by_fault _ _ _ _ c.in_err-version.ensures.answer) c.from_residual-in_err-version.result (problem.Unanswered why) c.from_residual-in_err-version.ensures.1 refl)
+    by_text (λ code. code) c.args.bytes.now _ c.in_ok-text.text.now c.in_ok-text.ensures (c.from_residual-in_err-version.result) (by_problem (λ code. code) _ why (given.by_fault _ _ _ _ c.in_err-version.ensures) c.from_residual-in_err-version.result (problem.Unanswered why) c.from_residual-in_err-version.ensures.1 refl)
 
 pub returns : goal.returns
 returns c =
-    by_text (λ code. code) c.args.bytes.now _ c.in_ok-text.text.now c.in_ok-text.ensures (Ok c.match_code.result) (by_answer (λ code. code) _ (Ok c.match_code.result) (given.by_value _ _ _ _ c.in_ok-version.ensures.answer _ (given.answered _ _ _ (c.match_code.ensures ∙ ap (λ flag. match_code (match_of flag c.args.range.now.inner c.in_ok-version.version)) c.pre_release.ensures))) (Ok c.match_code.result) refl)
+    by_text (λ code. code) c.args.bytes.now _ c.in_ok-text.text.now c.in_ok-text.ensures (Ok c.match_code.result) (by_answer (λ code. code) _ (Ok c.match_code.result) (given.by_value _ _ _ _ c.in_ok-version.ensures _ (given.answered _ _ _ (c.match_code.ensures ∙ ap (λ flag. match_code (match_of flag c.args.range.now.inner c.in_ok-version.version)) c.pre_release.ensures))) (Ok c.match_code.result) refl)

@@ -10,8 +10,8 @@ returns-in_err-text c =
 pub returns-in_err-name_with_version_parts : goal.returns-in_err-name_with_version_parts
 returns-in_err-name_with_version_parts c =
     let why = c.in_err-name_with_version_parts.field-0.0 in
-    by_text string_bytes c.args.bytes.now _ c.in_ok-text.text.now c.in_ok-text.ensures (c.from_residual-in_err-name_with_version_parts.result) (by_problem string_bytes _ why c.in_err-name_with_version_parts.ensures.answer c.from_residual-in_err-name_with_version_parts.result (problem.Unanswered why) c.from_residual-in_err-name_with_version_parts.ensures.1 refl)
+    by_text string_bytes c.args.bytes.now _ c.in_ok-text.text.now c.in_ok-text.ensures (c.from_residual-in_err-name_with_version_parts.result) (by_problem string_bytes _ why c.in_err-name_with_version_parts.ensures c.from_residual-in_err-name_with_version_parts.result (problem.Unanswered why) c.from_residual-in_err-name_with_version_parts.ensures.1 refl)
 
 pub returns : goal.returns
 returns c =
-    by_text string_bytes c.args.bytes.now _ c.in_ok-text.text.now c.in_ok-text.ensures (Ok c.in_ok-name_with_version_parts.field-0) (by_answer string_bytes _ (Ok (string_bytes c.in_ok-name_with_version_parts.field-0)) c.in_ok-name_with_version_parts.ensures.answer (Ok c.in_ok-name_with_version_parts.field-0) refl)
+    by_text string_bytes c.args.bytes.now _ c.in_ok-text.text.now c.in_ok-text.ensures (Ok c.in_ok-name_with_version_parts.field-0) (by_answer string_bytes _ (Ok (string_bytes c.in_ok-name_with_version_parts.field-0)) c.in_ok-name_with_version_parts.ensures (Ok c.in_ok-name_with_version_parts.field-0) refl)

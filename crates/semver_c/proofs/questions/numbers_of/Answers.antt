@@ -13,11 +13,11 @@ returns-in_err-text c =
 pub returns-in_err-version : goal.returns-in_err-version
 returns-in_err-version c =
     let why = c.in_err-version.field-0.0 in
-    by_text (λ (numbers : Numbers). numbers) c.args.bytes.now _ c.in_ok-text.text.now c.in_ok-text.ensures (c.from_residual-in_err-version.result) (by_problem (λ (numbers : Numbers). numbers) _ why (given.by_fault _ _ _ _ c.in_err-version.ensures.answer) c.from_residual-in_err-version.result (problem.Unanswered why) c.from_residual-in_err-version.ensures.1 refl)
+    by_text (λ (numbers : Numbers). numbers) c.args.bytes.now _ c.in_ok-text.text.now c.in_ok-text.ensures (c.from_residual-in_err-version.result) (by_problem (λ (numbers : Numbers). numbers) _ why (given.by_fault _ _ _ _ c.in_err-version.ensures) c.from_residual-in_err-version.result (problem.Unanswered why) c.from_residual-in_err-version.ensures.1 refl)
 
 pub returns : goal.returns
 returns c =
     let version = c.in_ok-version.version in
     let numbers : Numbers = record { major = version.major; minor = version.minor; patch = version.patch; is_unqualified = c.if-is_empty.result } in
     let are : numbers ≡ version_numbers version = search rules in
-    by_text (λ (numbers : Numbers). numbers) c.args.bytes.now _ c.in_ok-text.text.now c.in_ok-text.ensures (Ok numbers) (by_answer (λ (numbers : Numbers). numbers) _ (Ok numbers) (given.by_value _ _ _ _ c.in_ok-version.ensures.answer _ (given.answered _ _ _ are)) (Ok numbers) refl)
+    by_text (λ (numbers : Numbers). numbers) c.args.bytes.now _ c.in_ok-text.text.now c.in_ok-text.ensures (Ok numbers) (by_answer (λ (numbers : Numbers). numbers) _ (Ok numbers) (given.by_value _ _ _ _ c.in_ok-version.ensures _ (given.answered _ _ _ are)) (Ok numbers) refl)

@@ -14,8 +14,8 @@ returns-in_err-other c =
 pub returns-in_err-order : goal.returns-in_err-order
 returns-in_err-order c =
     let why = c.in_err-order.field-0.0 in
-    by_text (λ order. order) c.args.one.now _ c.in_ok-one.one.now c.in_ok-one.ensures (c.from_residual-in_err-order.result) (by_text (λ order. order) c.args.other.now _ c.in_ok-other.other.now c.in_ok-other.ensures (c.from_residual-in_err-order.result) (by_problem (λ order. order) _ why c.in_err-order.ensures.answer c.from_residual-in_err-order.result (problem.Unanswered why) c.from_residual-in_err-order.ensures.1 refl))
+    by_text (λ order. order) c.args.one.now _ c.in_ok-one.one.now c.in_ok-one.ensures (c.from_residual-in_err-order.result) (by_text (λ order. order) c.args.other.now _ c.in_ok-other.other.now c.in_ok-other.ensures (c.from_residual-in_err-order.result) (by_problem (λ order. order) _ why c.in_err-order.ensures c.from_residual-in_err-order.result (problem.Unanswered why) c.from_residual-in_err-order.ensures.1 refl))
 
 pub returns : goal.returns
 returns c =
-    by_text (λ order. order) c.args.one.now _ c.in_ok-one.one.now c.in_ok-one.ensures (Ok c.in_ok-order.field-0) (by_text (λ order. order) c.args.other.now _ c.in_ok-other.other.now c.in_ok-other.ensures (Ok c.in_ok-order.field-0) (by_answer (λ order. order) _ (Ok c.in_ok-order.field-0) c.in_ok-order.ensures.answer (Ok c.in_ok-order.field-0) refl))
+    by_text (λ order. order) c.args.one.now _ c.in_ok-one.one.now c.in_ok-one.ensures (Ok c.in_ok-order.field-0) (by_text (λ order. order) c.args.other.now _ c.in_ok-other.other.now c.in_ok-other.ensures (Ok c.in_ok-order.field-0) (by_answer (λ order. order) _ (Ok c.in_ok-order.field-0) c.in_ok-order.ensures (Ok c.in_ok-order.field-0) refl))

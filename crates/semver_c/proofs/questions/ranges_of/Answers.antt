@@ -15,8 +15,8 @@ returns-in_err-text c =
 pub returns-in_err-range_parts : goal.returns-in_err-range_parts
 returns-in_err-range_parts c =
     let why = c.in_err-range_parts.field-0.0 in
-    by_grammar (λ answer. list_answer string_bytes answer) c.args.grammar _ c.in_ok-flavour.flavour c.in_ok-flavour.ensures (c.from_residual-in_err-range_parts.result) (by_text (λ answer. list_answer string_bytes answer) c.args.bytes.now _ c.in_ok-text.text.now c.in_ok-text.ensures (c.from_residual-in_err-range_parts.result) (by_problem (λ answer. list_answer string_bytes answer) _ why c.in_err-range_parts.ensures.answer c.from_residual-in_err-range_parts.result (problem.Unanswered why) c.from_residual-in_err-range_parts.ensures.1 refl))
+    by_grammar (λ answer. list_answer string_bytes answer) c.args.grammar _ c.in_ok-flavour.flavour c.in_ok-flavour.ensures (c.from_residual-in_err-range_parts.result) (by_text (λ answer. list_answer string_bytes answer) c.args.bytes.now _ c.in_ok-text.text.now c.in_ok-text.ensures (c.from_residual-in_err-range_parts.result) (by_problem (λ answer. list_answer string_bytes answer) _ why c.in_err-range_parts.ensures c.from_residual-in_err-range_parts.result (problem.Unanswered why) c.from_residual-in_err-range_parts.ensures.1 refl))
 
 pub returns : goal.returns
 returns c =
-    by_grammar (λ answer. list_answer string_bytes answer) c.args.grammar _ c.in_ok-flavour.flavour c.in_ok-flavour.ensures (Ok c.in_ok-range_parts.field-0) (by_text (λ answer. list_answer string_bytes answer) c.args.bytes.now _ c.in_ok-text.text.now c.in_ok-text.ensures (Ok c.in_ok-range_parts.field-0) (by_answer (λ answer. list_answer string_bytes answer) _ (Ok (list_answer string_bytes c.in_ok-range_parts.field-0)) c.in_ok-range_parts.ensures.answer (Ok c.in_ok-range_parts.field-0) refl))
+    by_grammar (λ answer. list_answer string_bytes answer) c.args.grammar _ c.in_ok-flavour.flavour c.in_ok-flavour.ensures (Ok c.in_ok-range_parts.field-0) (by_text (λ answer. list_answer string_bytes answer) c.args.bytes.now _ c.in_ok-text.text.now c.in_ok-text.ensures (Ok c.in_ok-range_parts.field-0) (by_answer (λ answer. list_answer string_bytes answer) _ (Ok (list_answer string_bytes c.in_ok-range_parts.field-0)) c.in_ok-range_parts.ensures (Ok c.in_ok-range_parts.field-0) refl))

@@ -21,7 +21,7 @@ returns-in_err-package c =
     let why = c.in_err-package.field-0.0 in
     by_grammar whole_package c.args.grammar _ c.in_ok-flavour.flavour c.in_ok-flavour.ensures (c.from_residual-in_err-package.result)
     (by_text whole_package c.args.bytes.now _ c.in_ok-text.text.now c.in_ok-text.ensures (c.from_residual-in_err-package.result)
-    (by_problem whole_package _ why c.in_err-package.ensures.answer c.from_residual-in_err-package.result (problem.Unanswered why) c.from_residual-in_err-package.ensures.1 refl))
+    (by_problem whole_package _ why c.in_err-package.ensures c.from_residual-in_err-package.result (problem.Unanswered why) c.from_residual-in_err-package.ensures.1 refl))
 
 abbrev as_read : PackageReq → Result PackageReq CallFault
 as_read req = Ok req
@@ -32,4 +32,4 @@ returns c =
     let read : ReadPackage = record { name = parsed.name; range = c.in_ok-range.range } in
     by_grammar whole_package c.args.grammar _ c.in_ok-flavour.flavour c.in_ok-flavour.ensures (Ok read)
     (by_text whole_package c.args.bytes.now _ c.in_ok-text.text.now c.in_ok-text.ensures (Ok read)
-    (by_answer whole_package _ (Ok parsed) c.in_ok-package.ensures.answer (Ok read) (ap (λ (req : Requirement). as_read (record { name = parsed.name; version_req = req })) c.in_ok-range.ensures)))
+    (by_answer whole_package _ (Ok parsed) c.in_ok-package.ensures (Ok read) (ap (λ (req : Requirement). as_read (record { name = parsed.name; version_req = req })) c.in_ok-range.ensures)))

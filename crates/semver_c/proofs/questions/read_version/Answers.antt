@@ -11,7 +11,7 @@ returns-in_err-text-clause-answer c =
 pub returns-in_err-parsed-clause-answer : goal.returns-in_err-parsed-clause-answer
 returns-in_err-parsed-clause-answer c =
     let why = c.in_err-parsed.field-0.0 in
-    by_text (λ (read : ReadVersion). read.version.value) c.args.bytes.now _ c.in_ok-text.text.now c.in_ok-text.ensures (c.from_residual-in_err-parsed.result) (by_problem (λ (read : ReadVersion). read.version.value) _ why c.in_err-parsed.ensures.answer c.from_residual-in_err-parsed.result (problem.Unanswered why) c.from_residual-in_err-parsed.ensures.1 refl)
+    by_text (λ (read : ReadVersion). read.version.value) c.args.bytes.now _ c.in_ok-text.text.now c.in_ok-text.ensures (c.from_residual-in_err-parsed.result) (by_problem (λ (read : ReadVersion). read.version.value) _ why c.in_err-parsed.ensures c.from_residual-in_err-parsed.result (problem.Unanswered why) c.from_residual-in_err-parsed.ensures.1 refl)
 
 pub returns-in_err-displayed-clause-answer : goal.returns-in_err-displayed-clause-answer
 returns-in_err-displayed-clause-answer c =
@@ -23,4 +23,4 @@ returns-in_err-version-clause-answer c =
 
 pub returns-clause-answer : goal.returns-clause-answer
 returns-clause-answer c =
-    by_text (λ (read : ReadVersion). read.version.value) c.args.bytes.now _ c.in_ok-text.text.now c.in_ok-text.ensures (Ok (record { version = c.in_ok-version.version; displayed = c.in_ok-displayed.displayed })) (by_answer (λ (read : ReadVersion). read.version.value) _ (Ok c.in_ok-parsed.parsed) c.in_ok-parsed.ensures.answer (Ok (record { version = c.in_ok-version.version; displayed = c.in_ok-displayed.displayed })) (ap Ok c.in_ok-version.ensures))
+    by_text (λ (read : ReadVersion). read.version.value) c.args.bytes.now _ c.in_ok-text.text.now c.in_ok-text.ensures (Ok (record { version = c.in_ok-version.version; displayed = c.in_ok-displayed.displayed })) (by_answer (λ (read : ReadVersion). read.version.value) _ (Ok c.in_ok-parsed.parsed) c.in_ok-parsed.ensures (Ok (record { version = c.in_ok-version.version; displayed = c.in_ok-displayed.displayed })) (ap Ok c.in_ok-version.ensures))

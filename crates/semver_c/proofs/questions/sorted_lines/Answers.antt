@@ -14,8 +14,8 @@ returns-in_err-lines c =
 pub returns-in_err-sort : goal.returns-in_err-sort
 returns-in_err-sort c =
     let why = c.in_err-sort.field-0.0 in
-    by_text (λ places. places.items) c.args.versions.now _ c.in_ok-versions.versions.now c.in_ok-versions.ensures (c.from_residual-in_err-sort.result) (by_problem (λ places. places.items) _ why (rw (c.as_slice.ensures.value, c.in_ok-lines.ensures) at c.in_err-sort.ensures.answer) c.from_residual-in_err-sort.result (problem.Unanswered why) c.from_residual-in_err-sort.ensures.1 refl)
+    by_text (λ places. places.items) c.args.versions.now _ c.in_ok-versions.versions.now c.in_ok-versions.ensures (c.from_residual-in_err-sort.result) (by_problem (λ places. places.items) _ why (rw (c.as_slice.ensures.value, c.in_ok-lines.ensures) at c.in_err-sort.ensures) c.from_residual-in_err-sort.result (problem.Unanswered why) c.from_residual-in_err-sort.ensures.1 refl)
 
 pub returns : goal.returns
 returns c =
-    by_text (λ places. places.items) c.args.versions.now _ c.in_ok-versions.versions.now c.in_ok-versions.ensures (Ok c.in_ok-sort.field-0) (by_answer (λ places. places.items) _ (Ok c.in_ok-sort.field-0.items) (rw (c.as_slice.ensures.value, c.in_ok-lines.ensures) at c.in_ok-sort.ensures.answer) (Ok c.in_ok-sort.field-0) refl)
+    by_text (λ places. places.items) c.args.versions.now _ c.in_ok-versions.versions.now c.in_ok-versions.ensures (Ok c.in_ok-sort.field-0) (by_answer (λ places. places.items) _ (Ok c.in_ok-sort.field-0.items) (rw (c.as_slice.ensures.value, c.in_ok-lines.ensures) at c.in_ok-sort.ensures) (Ok c.in_ok-sort.field-0) refl)
