@@ -7,11 +7,18 @@ which builds them.
 
 With a folder only the rows of ranges and npmver are run, of the programs in that folder, each by the command, such as qemu-aarch64.
 A row of PROGRAM.jsonl is a JSON object: `arguments`, those after the program's name, standard input where there is one, standard output,
-standard error and the status; absent texts are empty. A byte of arguments or input that isn't valid UTF-8 is written as Python's
-surrogateescape has it, `\\udcff` for 255. Each row is run once more where nothing can be written. An example is what stands after
+standard error and the status; absent texts are empty. A byte of arguments, input or files that isn't valid UTF-8 is written as Python's
+surrogateescape has it, `\\udcff` for 255. A row may also have
+
+    files    an object of files by name, in a folder in which the program runs; each is a text, or an object of `text` and `mode`
+    env      an object of variables for the environment
+    tty      a list of `stdin`, `stdout` and `stderr`, each of which is a terminal of its own
+    into     an object that says of `stdout` or `stderr` that it's `full`, so that nothing can be written, or `closed`, a pipe that nobody reads
+
+Each row runs with a stack of STACK bytes, and once more where nothing can be written. An example is what stands after
 `$ ` in a console block of a page, where `ranges` is in it, with the lines that it prints. The last line counts; the status is 1
 where something differs."""
-import json, os, pathlib, re, subprocess, sys
+import contextlib, ctypes, json, os, pathlib, pty, re, resource, shutil, subprocess, sys, tempfile, termios, threading
 
 TOP = pathlib.Path(__file__).resolve().parents[2]
 HERE = pathlib.Path(__file__).resolve().parent
@@ -40,17 +47,132 @@ LONG = (
     (20_000, "a.", '[["fits","strict","1.2.3-@+@","1.2.3-@+@"],["yes"]]'),
 )
 
+# The stack that a program has behind its arguments, in bytes; and how much its arguments may take there, and more.
+STACK, ROOMY = 256 * 1024, 64 * 1024 * 1024
+# The calls of ptrace.
+TRACEME, DETACH = 0, 17
+LIBC = ctypes.CDLL(None, use_errno=True)
+LIBC.ptrace.argtypes = (ctypes.c_long, ctypes.c_int, ctypes.c_void_p, ctypes.c_void_p)
+# How many arguments or lines a program gets, and within how many seconds it answers.
+PLENTY, SOON = 200_000, 20
 # How many alternatives two requirements have that are asked about together, and how many seconds that may take.
 ALTERNATIVES, MOMENT = 3_200, 1
+
+
+# What is printed of the range `1`, and of the line `1..2`.
+ONE_EXPLAINED = (
+    '{"alternatives":[{"end":{"inclusive":false,"version":"2.0.0"},"lowest":"1.0.0","pre-releases":[],'
+    '"start":{"inclusive":true,"version":"1.0.0"},"text":"1"}],"normal":"1"}\n'
+)
+ONE_CHECKED = '-:{}:1: error: "1..2": not a version range\n  | 1..2\n  |   ^ expected a number or a wildcard\n'
 
 
 def as_bytes(given):
     return given.encode(errors="surrogateescape")
 
 
-def run(program, arguments, given="", seconds=60):
-    ran = subprocess.run([*COMMAND, str(program), *arguments], input=as_bytes(given), capture_output=True, timeout=seconds)
-    return ran.stdout.decode(), ran.stderr.decode(), ran.returncode
+def prepare():
+    """In a child, before its program begins: takes so many arguments as the system allows, and stops where the program begins."""
+    resource.setrlimit(resource.RLIMIT_STACK, (ROOMY, resource.getrlimit(resource.RLIMIT_STACK)[1]))
+    if LIBC.ptrace(TRACEME, 0, None, None) != 0:
+        raise OSError(ctypes.get_errno(), "ptrace")
+
+
+def limit_stack(pid):
+    """Leaves a program that begins so much of a stack behind its arguments, which lie there too."""
+    os.waitpid(pid, 0)
+    taken = int(re.search(r"VmStk:\s+(\d+) kB", pathlib.Path(f"/proc/{pid}/status").read_text())[1])
+    resource.prlimit(pid, resource.RLIMIT_STACK, (taken * 1024 + STACK,) * 2)
+    LIBC.ptrace(DETACH, pid, None, None)
+
+
+@contextlib.contextmanager
+def room_of(files):
+    """A folder with these files, or none."""
+    if files is None:
+        yield None
+        return
+    with tempfile.TemporaryDirectory() as room:
+        os.chmod(room, 0o755)
+        for name, held in files.items():
+            path = pathlib.Path(room) / name
+            held = held if isinstance(held, dict) else {"text": held}
+            path.parent.mkdir(parents=True, exist_ok=True)
+            path.write_bytes(as_bytes(held["text"]))
+            path.chmod(int(held.get("mode", "644"), 8))
+        yield room
+
+
+def terminal():
+    """The two ends of a terminal that writes what it gets as it is, and echoes nothing."""
+    ours, theirs = pty.openpty()
+    modes = termios.tcgetattr(theirs)
+    modes[1] &= ~termios.OPOST
+    modes[3] &= ~termios.ECHO
+    termios.tcsetattr(theirs, termios.TCSANOW, modes)
+    return ours, theirs
+
+
+def read_all(end, parts):
+    """Reads what a terminal gets until its other end is closed."""
+    with contextlib.suppress(OSError):
+        while part := os.read(end, 4096):
+            parts.append(part)
+
+
+def stream(row, name):
+    """Our end of a stream of the program, if it is a terminal, and the program's end."""
+    if name in row.get("tty", ()):
+        return terminal()
+    match row.get("into", {}).get(name):
+        case "full":
+            return None, os.open("/dev/full", os.O_WRONLY)
+        case "closed":
+            ours, theirs = os.pipe()
+            os.close(ours)
+            return None, theirs
+    return None, subprocess.PIPE
+
+
+def run(program, row, seconds=60):
+    """What the program writes, and its status. Where a file has a mode, root runs the program as nobody, and a copy of it."""
+    streams = {name: stream(row, name) for name in ("stdin", "stdout", "stderr")}
+    given, env = as_bytes(row.get("stdin", "")), {name: os.environ[name] for name in os.environ if name != "NO_COLOR"} | row.get("env", {})
+    with room_of(row.get("files")) as room:
+        options, words = {"cwd": room, "env": env, "preexec_fn": None if COMMAND else prepare}, [*COMMAND, str(program)]
+        if os.geteuid() == 0 and any(isinstance(it, dict) for it in row.get("files", {}).values()):
+            words[-1] = shutil.copy(program, room)
+            options |= {"user": 65534, "group": 65534, "extra_groups": ()}
+        ends = {name: theirs for name, (_, theirs) in streams.items()}
+        child = subprocess.Popen([*words, *row["arguments"]], **ends, **options)
+        # An emulator needs a stack of its own.
+        if not COMMAND:
+            limit_stack(child.pid)
+        for theirs in ends.values():
+            if theirs != subprocess.PIPE:
+                os.close(theirs)
+        parts = {name: [] for name, (ours, _) in streams.items() if ours is not None}
+        for name in parts.keys() - {"stdin"}:
+            threading.Thread(target=read_all, args=(streams[name][0], parts[name]), daemon=True).start()
+        if "stdin" in parts:
+            os.write(streams["stdin"][0], given + b"\4")
+        try:
+            written = child.communicate(given if "stdin" not in parts else None, timeout=seconds)
+        except subprocess.TimeoutExpired:
+            child.kill()
+            child.wait()
+            raise
+    for thread in threading.enumerate():
+        if thread is not threading.current_thread():
+            thread.join()
+    for name in parts:
+        os.close(streams[name][0])
+    texts = [b"".join(parts[name]) if name in parts else text or b"" for name, text in zip(("stdout", "stderr"), written)]
+    return *(text.decode() for text in texts), child.returncode
+
+
+def wanted_of(row):
+    return row.get("stdout", ""), row.get("stderr", ""), row["status"]
 
 
 def rows_of(name):
@@ -63,25 +185,22 @@ def rows():
     """For each row what differs, or None."""
     for name, program in PROGRAMS.items():
         for place, row in rows_of(name):
-            wanted = (row.get("stdout", ""), row.get("stderr", ""), row["status"])
-            found = run(program, row["arguments"], row.get("stdin", ""))
+            wanted, found = wanted_of(row), run(program, row)
             yield None if found == wanted else f"{place}: {row['arguments']}: wanted {wanted}, found {found}"
 
 
 def unwritable():
     """Where nothing can be written, an answer has the status 6, and any other status stays."""
-    with open("/dev/full", "wb") as full:
-
-        def status(program, arguments, given):
-            return subprocess.run([str(program), *arguments], input=as_bytes(given), stdout=full, stderr=full, timeout=60).returncode
-
-        for name, program in PROGRAMS.items():
-            for place, row in rows_of(name):
-                wanted = 6 if "stdout" in row else row["status"]
-                found = status(program, row["arguments"], row.get("stdin", ""))
-                yield None if found == wanted else f"{place}, where nothing can be written: wanted {wanted}, found {found}"
-        found = status(RANGES, ["filter", "*"], "1.0.0\n" * FEW)
-        yield None if found == 6 else f"an answer that is longer than the buffer, where nothing can be written: found {found}"
+    full = {"into": {"stdout": "full", "stderr": "full"}, "tty": ()}
+    for name, program in PROGRAMS.items():
+        for place, row in rows_of(name):
+            if "tty" in row or "into" in row:
+                continue
+            wanted = 6 if "stdout" in row else row["status"]
+            found = run(program, row | full)[2]
+            yield None if found == wanted else f"{place}, where nothing can be written: wanted {wanted}, found {found}"
+    found = run(RANGES, full | {"arguments": ["filter", "*"], "stdin": "1.0.0\n" * FEW})[2]
+    yield None if found == 6 else f"an answer that is longer than the buffer, where nothing can be written: found {found}"
 
 
 def unreadable():
@@ -106,7 +225,7 @@ def long_texts():
     for count, piece, row in LONG:
         place = f"{row} of {count} times {piece}"
         try:
-            status = run(PROGRAMS["conformance"], [], row.replace("@", piece * count), SECONDS)[2]
+            status = run(PROGRAMS["conformance"], {"arguments": [], "stdin": row.replace("@", piece * count)}, SECONDS)[2]
             yield None if status == 0 else f"{place}: status {status}"
         except subprocess.TimeoutExpired:
             yield f"{place}: no answer after {SECONDS} seconds"
@@ -118,10 +237,35 @@ def many_ranges():
     for command, wanted in (("common", ("9.0.0\n", "", 0)), ("within", ("no 1.0.0\n", "", 1))):
         place = f"{command} of {ALTERNATIVES} alternatives each"
         try:
-            found = run(RANGES, [command, one, other], seconds=MOMENT)
+            found = run(RANGES, {"arguments": [command, one, other]}, MOMENT)
             yield None if found == wanted else f"{place}: wanted {wanted}, found {found}"
         except subprocess.TimeoutExpired:
             yield f"{place}: no answer after {MOMENT} seconds"
+
+
+def plenty():
+    """Many arguments and many lines are answered, with no more stack than few."""
+    def ask(program, arguments, given, wanted):
+        what = f"{program} {[*arguments[:3], '..'][: len(arguments)]}, {PLENTY} arguments or lines"
+        try:
+            found = run(PROGRAMS[program], {"arguments": arguments, "stdin": given}, SOON)
+        except subprocess.TimeoutExpired:
+            return f"{what}: no answer after {SOON} seconds"
+        return None if found == wanted else f"{what}: wanted {tuple(str(it)[:80] for it in wanted)}, found {tuple(str(it)[:80] for it in found)}"
+
+    ranges, versions, lines = ["1"] * PLENTY, ["1.0.0"] * PLENTY, "1.0.0\n" * PLENTY
+    yield ask("ranges", ["common", *ranges[:150_000]], "", ("1.0.0\n", "", 0))
+    yield ask("ranges", ["explain", "--json", *ranges], "", (ONE_EXPLAINED * PLENTY, "", 0))
+    yield ask("ranges", ["normal", *ranges], "", ("1\n" * PLENTY, "", 0))
+    yield ask("ranges", ["overlap", *ranges], "", ("yes\n", "", 0))
+    yield ask("ranges", ["check", *ranges], "", ("", "ranges: 1: no such file\n" * PLENTY, 3))
+    yield ask("ranges", ["check"], "1..2\n" * PLENTY, ("".join(ONE_CHECKED.format(line) for line in range(1, PLENTY + 1)), "", 3))
+    for command, answer in (("filter", lines), ("best", "1.0.0\n"), ("outdated", "1.0.0 1.0.0\n"), ("sort", lines)):
+        range_there = [] if command == "sort" else ["1"]
+        yield ask("ranges", [command, *range_there, *versions], "", (answer, "", 0))
+        yield ask("ranges", [command, *range_there], lines, (answer, "", 0))
+    yield ask("ranges", ["filter", "1", *["-r=1"] * PLENTY], "1.0.0\n", ("1.0.0\n", "", 0))
+    yield ask("ranges", ["sort"], "[" + ",".join(['"1.0.0"'] * PLENTY) + "]", (lines, "", 0))
 
 
 def examples(page):
@@ -187,7 +331,7 @@ def main():
     for program in PROGRAMS.values():
         if not program.is_file():
             sys.exit(f"{program} isn't built: run rt ci first")
-    checks = (rows, unwritable, unreadable, long_texts, many_ranges, pages, memory, scarce, closed)
+    checks = (rows, unwritable, unreadable, long_texts, many_ranges, plenty, pages, memory, scarce, closed)
     if FOLDER:
         checks = (rows,)
     outcomes = [outcome for check in checks for outcome in check()]
