@@ -25,7 +25,7 @@ HERE = pathlib.Path(__file__).resolve().parent
 FOLDER, COMMAND = sys.argv[1:2], sys.argv[2:]
 PROGRAMS = {name: TOP / f"crates/{name}/out/{name}" for name in ("ranges", "npmver", "conformance")}
 if FOLDER:
-    PROGRAMS = {name: pathlib.Path(FOLDER[0]) / name for name in ("ranges", "npmver")}
+    PROGRAMS = {name: pathlib.Path(FOLDER[0]).resolve() / name for name in ("ranges", "npmver")}
 RANGES = PROGRAMS["ranges"]
 PAGES = ("README.md", "docs/RANGES.md")
 # How much more memory, in kilobytes, many lines may take than few.
@@ -59,16 +59,21 @@ PLENTY, SOON = 200_000, 20
 ALTERNATIVES, MOMENT = 3_200, 1
 
 
-# What is printed of the range `1`, and of the line `1..2`.
+# What is printed of the range `1`, and of the line `^1..2`.
 ONE_EXPLAINED = (
     '{"alternatives":[{"end":{"inclusive":false,"version":"2.0.0"},"lowest":"1.0.0","pre-releases":[],'
     '"start":{"inclusive":true,"version":"1.0.0"},"text":"1"}],"normal":"1"}\n'
 )
-ONE_CHECKED = '-:{}:1: error: "1..2": not a version range\n  | 1..2\n  |   ^ expected a number or a wildcard\n'
+ONE_CHECKED = '-:{}:1: error: "^1..2": not a version range\n  | ^1..2\n  |    ^ expected a number or a wildcard\n'
 
 
 def as_bytes(given):
     return given.encode(errors="surrogateescape")
+
+
+def limit_own_stack():
+    """Limits the stack of a child before its program begins, arguments included."""
+    resource.setrlimit(resource.RLIMIT_STACK, (STACK, STACK))
 
 
 def prepare():
@@ -137,16 +142,18 @@ def stream(row, name):
 def run(program, row, seconds=60):
     """What the program writes, and its status. Where a file has a mode, root runs the program as nobody, and a copy of it."""
     streams = {name: stream(row, name) for name in ("stdin", "stdout", "stderr")}
-    given, env = as_bytes(row.get("stdin", "")), {name: os.environ[name] for name in os.environ if name != "NO_COLOR"} | row.get("env", {})
+    given = as_bytes(row.get("stdin", ""))
+    env = {name: held for name, held in os.environ.items() if name != "NO_COLOR"} | row.get("env", {})
     with room_of(row.get("files")) as room:
-        options, words = {"cwd": room, "env": env, "preexec_fn": None if COMMAND else prepare}, [*COMMAND, str(program)]
+        words, options = [*COMMAND, str(program)], {"cwd": room, "env": env, "preexec_fn": prepare}
         if os.geteuid() == 0 and any(isinstance(it, dict) for it in row.get("files", {}).values()):
             words[-1] = shutil.copy(program, room)
-            options |= {"user": 65534, "group": 65534, "extra_groups": ()}
+            options |= {"user": 65534, "group": 65534, "extra_groups": (), "preexec_fn": limit_own_stack}
+        if COMMAND:
+            options["preexec_fn"] = None  # an emulator needs its own stack
         ends = {name: theirs for name, (_, theirs) in streams.items()}
         child = subprocess.Popen([*words, *row["arguments"]], **ends, **options)
-        # An emulator needs a stack of its own.
-        if not COMMAND:
+        if options["preexec_fn"] is prepare:
             limit_stack(child.pid)
         for theirs in ends.values():
             if theirs != subprocess.PIPE:
@@ -259,7 +266,9 @@ def plenty():
     yield ask("ranges", ["normal", *ranges], "", ("1\n" * PLENTY, "", 0))
     yield ask("ranges", ["overlap", *ranges], "", ("yes\n", "", 0))
     yield ask("ranges", ["check", *ranges], "", ("", "ranges: 1: no such file\n" * PLENTY, 3))
-    yield ask("ranges", ["check"], "1..2\n" * PLENTY, ("".join(ONE_CHECKED.format(line) for line in range(1, PLENTY + 1)), "", 3))
+    yield ask("ranges", ["check"], "^1..2\n" * PLENTY, ("".join(ONE_CHECKED.format(line) for line in range(1, PLENTY + 1)), "", 3))
+    nested = '{"x":' + "[" * PLENTY + "]" * PLENTY + ',"dependencies":{"a":"1..2"}}'
+    yield ask("ranges", ["check"], nested, (f'-:1:{nested.index("1..2")}: warning: a: "1..2": is a version meant?\n', "", 0))
     for command, answer in (("filter", lines), ("best", "1.0.0\n"), ("outdated", "1.0.0 1.0.0\n"), ("sort", lines)):
         range_there = [] if command == "sort" else ["1"]
         yield ask("ranges", [command, *range_there, *versions], "", (answer, "", 0))
@@ -313,7 +322,7 @@ def scarce():
 
 
 def closed():
-    """Output through a pipe that closes ends without a message."""
+    """Output through a pipe that closes ends with the status 6, and without a message."""
     lines = "1.0.0\n" * MANY
     child = subprocess.Popen([str(RANGES), "filter", "*"], stdin=subprocess.PIPE, stdout=subprocess.PIPE, stderr=subprocess.PIPE)
     child.stdout.close()
@@ -322,9 +331,8 @@ def closed():
         child.stdin.close()
     except BrokenPipeError:
         pass
-    said = child.stderr.read().decode()
-    yield None if said == "" else f"a closed pipe is told of: {said!r}"
-    child.wait(60)
+    found = (child.stderr.read().decode(), child.wait(60))
+    yield None if found == ("", 6) else f"filter with a closed pipe: found {found}"
 
 
 def main():
