@@ -66,12 +66,17 @@ pub fn hint(piece: &str, place: usize) -> Option<&'static str> {
             return Some(*hint);
         }
     }
-    let mut versions = before.rsplit(|c: char| !c.is_ascii_alphanumeric() && c != '.');
-    let numbers = versions.next().unwrap_or("").split('.').count();
+    let is_of_version = |c: char| c.is_ascii_alphanumeric() || ".*-+".contains(c);
+    let version = before
+        .rsplit(|c: char| !is_of_version(c))
+        .next()
+        .unwrap_or("");
+    // Behind a qualifier begins no fourth number.
+    let has_numbers = !version.contains(['-', '+'].as_slice()) && version.split('.').count() == 3;
     let follows_word = before.ends_with(|c: char| c.is_ascii_alphanumeric() || c == '*');
     match next {
         '.' if before.ends_with(' ') => Some("leave out the space before `.`"),
-        '.' if numbers == 3 => Some("a version has three numbers"),
+        '.' if has_numbers => Some("a version has three numbers"),
         '>' if before.ends_with('=') => Some("write `>=`"),
         '<' if before.ends_with('=') => Some("write `<=`"),
         c if is_operator(c) && before.ends_with(is_operator) => Some("write one operator"),
@@ -127,9 +132,10 @@ pub fn question(tag: &str) -> Option<&'static str> {
     if first != '.' && !is_digit(first) {
         return None;
     }
+    let numbers = tag.split(['-', '+'].as_slice()).next().unwrap_or("");
     if tag.ends_with('-') {
         Some("is a version meant? A pre-release follows `-`")
-    } else if tag.split('.').count() > 3 {
+    } else if numbers.split('.').count() > 3 {
         Some("is a version meant? One has three numbers")
     } else {
         Some("is a version meant?")
