@@ -5,6 +5,7 @@ pub mod args;
 pub mod console;
 pub mod hints;
 pub mod input;
+mod json;
 pub mod manifest;
 pub mod pointing;
 pub mod shown;

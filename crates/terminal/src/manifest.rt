@@ -1,5 +1,6 @@
 //! Where files hold version ranges: package.json, deno.json, import maps, and plain lines.
 
+use crate::json::error_place;
 use serde_json::Value;
 use std::alloc::{AllocError, Global};
 
@@ -43,12 +44,13 @@ struct Scanner<'t> {
     alloc: Global,
     file: &'t str,
     /// The keys on the way, and the empty one of the file.
-    path: Vec<&'t str>,
-    key: Option<&'t str>,
+    path: Vec<String>,
+    key: Option<String>,
     is_value: bool,
     /// Where a text starts, behind its quote.
     text: Option<usize>,
     is_escaped: bool,
+    is_lockfile: bool,
     entries: Vec<Entry>,
 }
 
@@ -65,17 +67,22 @@ pub fn unescaped(alloc: Global, raw: &str) -> Result<String, AllocError> {
     }
 }
 
-impl<'t> Scanner<'t> {
+impl Scanner<'_> {
     // The section of the next value, and how many objects deep in it the value is.
-    fn place(&self) -> (&'t str, usize) {
-        let key = self.key.unwrap_or("");
-        let section = self.path.get(1).copied().unwrap_or(key);
+    fn place(&self) -> (&str, usize) {
+        let section = match self.path.get(1) {
+            Some(key) => key.as_str(),
+            None => self.key.as_deref().unwrap_or(""),
+        };
         (section, self.path.len().saturating_sub(1))
     }
 
     // Adds an entry of the last key.
     fn add(&mut self, raw: &str, start: usize, kind: Kind) -> Result<(), AllocError> {
-        let name = unescaped(self.alloc, self.key.unwrap_or(""))?;
+        let name = match &self.key {
+            Some(key) => String::from_str(self.alloc, key.as_str())?,
+            None => String::new(self.alloc),
+        };
         let text = unescaped(self.alloc, raw)?;
         let entry = Entry {
             name,
@@ -108,7 +115,13 @@ impl<'t> Scanner<'t> {
         match c {
             '"' => self.text = Some(index.saturating_add(1)),
             ':' => self.is_value = true,
-            '{' | '[' => self.path.push(self.key.take().unwrap_or(""))?,
+            '{' | '[' => {
+                let key = match self.key.take() {
+                    Some(key) => key,
+                    None => String::new(self.alloc),
+                };
+                self.path.push(key)?;
+            }
             '}' | ']' => {
                 let _ = self.path.pop();
                 self.key = None;
@@ -132,7 +145,9 @@ impl<'t> Scanner<'t> {
         self.text = None;
         let raw = self.file.get(start..index).unwrap_or("");
         if !self.is_value {
-            self.key = Some(raw);
+            let key = unescaped(self.alloc, raw)?;
+            self.is_lockfile |= self.path.len() == 1 && key.as_str() == "lockfileVersion";
+            self.key = Some(key);
             return Ok(());
         }
         self.is_value = false;
@@ -146,10 +161,10 @@ impl<'t> Scanner<'t> {
 
 // The entries of JSON, or the one mistake that it is. A lockfile has none.
 fn of_text(alloc: Global, file: &str) -> Result<Vec<Entry>, AllocError> {
-    let (start, message) = match Value::from_str(alloc, file) {
-        Ok(value) if !value.is_object() => (0, "expected an object"),
-        Ok(value) if value.get("lockfileVersion").is_some() => return Ok(Vec::new(alloc)),
-        Ok(_) => {
+    let (start, message) = match error_place(alloc, file)? {
+        Some(place) => (place, "not valid JSON"),
+        None if !file.trim_start().starts_with('{') => (0, "expected an object"),
+        None => {
             let mut scanner = Scanner {
                 alloc,
                 file,
@@ -158,22 +173,22 @@ fn of_text(alloc: Global, file: &str) -> Result<Vec<Entry>, AllocError> {
                 is_value: false,
                 text: None,
                 is_escaped: false,
+                is_lockfile: false,
                 entries: Vec::new(alloc),
             };
             for (index, c) in file.char_indices() {
                 scanner.step(index, c)?;
             }
-            let Scanner { entries, .. } = scanner;
-            return Ok(entries);
-        }
-        Err(error) if error.is_memory() => return Err(AllocError),
-        Err(error) => {
-            // Lines and columns count from 1.
-            let mut index = error.column().saturating_sub(1);
-            for before in file.split('\n').take(error.line().saturating_sub(1)) {
-                index = index.saturating_add(before.len()).saturating_add(1);
-            }
-            (file.floor_char_boundary(index), "not valid JSON")
+            let Scanner {
+                is_lockfile,
+                entries,
+                ..
+            } = scanner;
+            return Ok(if is_lockfile {
+                Vec::new(alloc)
+            } else {
+                entries
+            });
         }
     };
     let mistake = Entry {
