@@ -249,7 +249,9 @@ fn warn<O: Write, E: Write>(
 // The text of a range: what follows the name in `npm:name@range`, or the whole text; none if it is another protocol.
 fn range_of(text: &str) -> Option<&str> {
     if let Some(alias) = text.strip_prefix("npm:") {
-        let (_, range) = alias.get(1..)?.rsplit_once('@')?;
+        // A scope begins with `@`, too.
+        let name = alias.strip_prefix('@').unwrap_or(alias);
+        let (_, range) = name.rsplit_once('@')?;
         return Some(range);
     }
     let is_path = text.starts_with(['.', '/', '$'].as_slice());
