@@ -2,7 +2,7 @@
 
 use crate::args::Options;
 use crate::hints::question;
-use crate::shown::Quoted;
+use crate::shown::{Quoted, Shown};
 use serde_json::Value;
 use std::alloc::{AllocError, AllocFailed, Global};
 use std::fmt::Display;
@@ -245,6 +245,7 @@ impl<O: Write, E: Write> Console<O, E> {
         let _ = self.out.flush();
         let style = self.terminal.err;
         let (start, end) = (style.code(ERROR), style.code(END));
+        let message = Shown(message);
         let _ = writeln!(self.err, "ranges: {subject}: {start}{message}{end}");
         Status::Rejected
     }
