@@ -1,12 +1,13 @@
 //! The commands that print one line.
 
+use crate::apart::first_apart;
 use crate::errors::{add_first, errors_of, print_errors};
 use answers::asking::{Answer, Kind, Problem};
 use answers::object::Object;
 use answers::questions::{common_version, text_of_version, version_outside};
 use answers::reading::{range, ranges};
 use clap::ArgMatches;
-use deno_semver::{Version, VersionReq};
+use deno_semver::Version;
 use serde_json::Value;
 use std::alloc::{AllocError, Global};
 use std::io::Write;
@@ -139,18 +140,6 @@ pub fn within<O: Write, E: Write>(
     Ok(Status::of(lowest.is_none()))
 }
 
-// The texts of the first two ranges that don't overlap.
-fn first_apart<'a>(texts: &[&'a str], ranges: &[VersionReq]) -> Option<(&'a str, &'a str)> {
-    for (place, (text, range)) in texts.iter().zip(ranges).enumerate() {
-        for (other_place, (other_text, other)) in texts.iter().zip(ranges).enumerate() {
-            if place < other_place && !range.intersects(other) {
-                return Some((*text, *other_text));
-            }
-        }
-    }
-    None
-}
-
 /// `ranges overlap RANGE RANGE..`: `yes` if the bounds of any two ranges overlap, or `no` and the first two that don't.
 pub fn overlap<O: Write, E: Write>(
     console: &mut Console<O, E>,
@@ -158,7 +147,7 @@ pub fn overlap<O: Write, E: Write>(
 ) -> Result<Status, Stop> {
     let texts = matches.get_strs("RANGE").unwrap_or(&[]);
     let apart = match ranges(console.alloc, console.options.flavour, texts) {
-        Ok(ranges) => first_apart(texts, ranges.as_slice()),
+        Ok(ranges) => first_apart(console.alloc, texts, ranges.as_slice())?,
         Err(problem) => return reject(console, texts, &problem),
     };
     if console.options.json {

@@ -8,6 +8,7 @@
 #![tactic(auto)]
 
 mod advice;
+mod apart;
 mod checking;
 mod comparing;
 mod errors;
