@@ -8,7 +8,7 @@ the top of the project, after rt ci (or after rt run in crates/conformance and c
 A grammar is a regular expression. Its derivative by a character is what may follow that character; a prefix is viable until no
 derivative is left. Each text is asked of the program conformance by each grammar, and some are asked of ranges, which says the
 place in its JSON. The last line counts; the status is 1 where something differs."""
-import functools, json, pathlib, random, subprocess, sys
+import functools, json, pathlib, random, re, subprocess, sys
 
 TOP = pathlib.Path(__file__).resolve().parents[2]
 CONFORMANCE, RANGES = (TOP / f"crates/{name}/out/{name}" for name in ("conformance", "ranges"))
@@ -248,13 +248,20 @@ def main():
     texts = [random_text(source) for _ in range(count)]
     versions = [random_version(source) for _ in range(count // 5)]
     large = list(too_large(random_comparators(source) for _ in range(count // 5)))
-    ran = subprocess.run([CONFORMANCE], input="\n".join([*rows(texts, versions), *large]).encode(), capture_output=True)
+    table = [*rows(texts, versions), *large]
+    ran = subprocess.run([CONFORMANCE], input="\n".join(table).encode(), capture_output=True)
+    printed = ran.stdout.decode()
+    # The program prints the rows that differ, and then counts.
+    counts = [int(it) for it in re.findall(r"^[\w-]+: \d+ asked, (\d+) differ$|^lines that aren't rows: (\d+)$", printed, re.M) for it in it if it]
     differing = list(asked_of_ranges(texts[:SHOWN]))
-    print(*differing[:10], sep="\n", end="")
-    print(ran.stdout.decode(), end="")
-    print(f"{3 * count} places in ranges, {count // 5} in versions, {len(large)} of numbers, {min(count, SHOWN)} texts shown,")
-    print(f"{len(differing)} of these differ")
-    return 1 if differing or ran.returncode else 0
+    print(*differing[:10], sep="\n", end="\n" if differing else "")
+    print(printed, end="")
+    if ran.returncode not in (0, 1) or not counts or (sum(counts) == 0) != (ran.returncode == 0):
+        print(f"conformance ends with the status {ran.returncode}, and counts {counts}: {ran.stderr.decode()}")
+        return 1
+    wrong = sum(counts) + len(differing)
+    print(f"places: {len(table)} in texts, and {min(count, SHOWN)} that ranges shows; {wrong} differ")
+    return 1 if wrong else 0
 
 
 if __name__ == "__main__":
