@@ -7,6 +7,9 @@ use crate::{examples, json, kinds, packages, requirements, versions};
 pub fn ask(call: &str, arguments: &[Item], answer: &mut Answer) -> Reported {
     match call {
         "version" => versions::version(arguments, answer),
+        "npm-version" => versions::npm_version(arguments, answer),
+        "version-requirement" => versions::version_requirement(arguments, answer),
+        "intersects-version" => versions::intersects_version(arguments, answer),
         "precedence" => versions::precedence(arguments, answer),
         "max-satisfying" | "min-satisfying" => versions::satisfying(call, arguments, answer),
         "order-of" | "equal-of" | "written" => kinds::of_kind(call, arguments, answer),
@@ -28,6 +31,7 @@ pub fn ask(call: &str, arguments: &[Item], answer: &mut Answer) -> Reported {
         "name-version" => packages::name_version(arguments, answer),
         "dependency" => packages::dependency(arguments, answer),
         "reference" | "version-reference" => packages::reference(call, arguments, answer),
+        "specifier" => packages::specifier(arguments, answer),
         "export" => packages::export(arguments, answer),
         "json" => json::json(arguments, answer),
         "stored" => json::stored(arguments, answer),

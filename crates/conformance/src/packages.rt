@@ -10,7 +10,7 @@ use deno_semver::npm::NpmRegistry;
 use deno_semver::package::{
     PackageKind, PackageNv, PackageNvParseError, PackageNvReferenceParseError, PackageReq,
     PackageReqParseError, PackageReqPartsParseError, PackageReqReferenceParseError, Registry,
-    RegistryNvReference, RegistryReqReference,
+    RegistryNvReference, RegistryReqReference, SpecifierError,
 };
 
 // The kind of an error.
@@ -29,7 +29,7 @@ fn kind(error: &PackageReqPartsParseError) -> OrFault<&'static str> {
 impl ReportError for PackageReqParseError {
     fn report(&self, answer: &mut Answer) -> Reported {
         let copy = self.copy()?;
-        answer.texts(&["rejected", kind(&copy.source)?])
+        answer.texts(&["rejected", kind(&copy.source)?, copy.text.as_str()])
     }
 }
 
@@ -48,11 +48,11 @@ impl ReportError for JsrDepPackageReqParseError {
 impl ReportError for PackageReqReferenceParseError {
     fn report(&self, answer: &mut Answer) -> Reported {
         match &self.copy()? {
-            PackageReqReferenceParseError::NotExpectedScheme(_) => {
-                answer.texts(&["rejected", "NotExpectedScheme"])
+            PackageReqReferenceParseError::NotExpectedScheme(kind) => {
+                answer.texts(&["rejected", "NotExpectedScheme", kind.scheme_with_colon()])
             }
             PackageReqReferenceParseError::Invalid(error) => {
-                answer.texts(&["rejected", kind(&error.source)?])
+                answer.texts(&["rejected", kind(&error.source)?, error.specifier.as_str()])
             }
             PackageReqReferenceParseError::InvalidPathWithVersion(error) => {
                 let (current, suggested) = (error.current.as_str(), error.suggested.as_str());
@@ -63,25 +63,25 @@ impl ReportError for PackageReqReferenceParseError {
     }
 }
 
-// Reports the message of an error; that for out of memory has none.
-fn reject(message: &str, answer: &mut Answer) -> Reported {
+// Reports the message and the text of an error; that for out of memory has no message.
+fn reject(message: &str, text: &str, answer: &mut Answer) -> Reported {
     if message.is_empty() {
         return Err(Fault::OutOfMemory);
     }
-    answer.texts(&["rejected", message])
+    answer.texts(&["rejected", message, text])
 }
 
 impl ReportError for PackageNvParseError {
     fn report(&self, answer: &mut Answer) -> Reported {
         let copy = self.copy()?;
-        reject(copy.message.as_str(), answer)
+        reject(copy.message.as_str(), copy.text.as_str(), answer)
     }
 }
 
 impl ReportError for PackageNvReferenceParseError {
     fn report(&self, answer: &mut Answer) -> Reported {
         let copy = self.copy()?;
-        reject(copy.message.as_str(), answer)
+        reject(copy.message.as_str(), copy.text.as_str(), answer)
     }
 }
 
@@ -170,6 +170,27 @@ fn version_reference_of<R: Registry>(text: &str, answer: &mut Answer) -> Reporte
     let reported = report_export(R::kind(), reference.sub_path(), answer);
     drop(reference);
     reported
+}
+
+/// `specifier`: the URL of a reference to a version of a package of a registry.
+pub fn specifier(arguments: &[Item], answer: &mut Answer) -> Reported {
+    let (registry, text) = pair(arguments)?;
+    match registry {
+        "jsr" => specifier_of::<JsrRegistry>(text, answer),
+        "npm" => specifier_of::<NpmRegistry>(text, answer),
+        _ => Err(Fault::OtherArguments),
+    }
+}
+
+fn specifier_of<R: Registry>(text: &str, answer: &mut Answer) -> Reported {
+    let reference = RegistryNvReference::<R>::parse(text, answer)?;
+    let made = reference.as_specifier(answer.alloc);
+    drop(reference);
+    match made {
+        Ok(url) => answer.text(url.as_str()),
+        Err(SpecifierError::Memory) => Err(Fault::OutOfMemory),
+        Err(_) => answer.text("rejected"),
+    }
 }
 
 // Reports the name of the export of a JSR package, or null.

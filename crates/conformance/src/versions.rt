@@ -1,16 +1,41 @@
 //! Calls on versions, and the choice of one among several.
 
-use crate::answer::{Answer, Fault, Item, Reported};
+use crate::answer::{Answer, Fault, Item, Reported, valid};
 use crate::arguments::{only, pair, pre_release, push};
 use crate::kinds::Parse;
 use crate::requirements::requirement;
-use deno_semver::{Version, resolve};
+use deno_semver::npm::parse_npm_version;
+use deno_semver::{IntoVersionReq, ParseFailure, Version, VersionRange, resolve};
 
 /// `version`: `read` and the version that a text parses to, as displayed.
 pub fn version(arguments: &[Item], answer: &mut Answer) -> Reported {
     let version = Version::parse(only(arguments)?, answer)?;
     answer.text("read")?;
     answer.displayed(&version)
+}
+
+/// `npm-version`: `read` and the version that npm's parser makes of a text, as displayed.
+pub fn npm_version(arguments: &[Item], answer: &mut Answer) -> Reported {
+    let parsed = parse_npm_version(answer.alloc, only(arguments)?).map_err(ParseFailure::from);
+    let version = valid(parsed, answer)?;
+    answer.text("read")?;
+    answer.displayed(&version)
+}
+
+/// `version-requirement`: the text and the canonical form of the requirement that a version is turned into.
+pub fn version_requirement(arguments: &[Item], answer: &mut Answer) -> Reported {
+    let alloc = answer.alloc;
+    let requirement = Version::parse(only(arguments)?, answer)?.into_req(alloc)?;
+    answer.text(requirement.version_text())?;
+    answer.made(requirement.to_string_normalized(alloc))
+}
+
+/// `intersects-version`: whether a version lies between the bounds of a range.
+pub fn intersects_version(arguments: &[Item], answer: &mut Answer) -> Reported {
+    let (range, version) = pair(arguments)?;
+    let range = VersionRange::parse(range, answer)?;
+    let version = Version::parse(version, answer)?;
+    answer.yes_or_no(range.intersects_version(&version))
 }
 
 /// `precedence`: how one version compares to another by precedence.

@@ -47,7 +47,11 @@ pub fn grown(answer: &mut Answer) -> Reported {
     answer.made(pushed::<String>(alloc, "1", "é²"))?;
     let replaced = SmallStackString::from_str(alloc, "abcdefghijklmnopqrstuvwxyzabcdefghijklmn")?;
     answer.made(replaced.replace(alloc, "a", "0123456789"))?;
-    answer.made(replaced.replace(alloc, "abc", ""))
+    answer.made(replaced.replace(alloc, "abc", ""))?;
+    let short = SmallStackString::from_str(alloc, "1é")?;
+    answer.made(short.replace(alloc, "", "-"))?;
+    answer.made(short.replace(alloc, "1", ""))?;
+    answer.made(SmallStackString::new(alloc).replace(alloc, "", "-"))
 }
 
 /// Texts that fit into the value, for which they take no memory.
