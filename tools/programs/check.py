@@ -27,6 +27,9 @@ PROGRAMS = {name: TOP / f"crates/{name}/out/{name}" for name in ("ranges", "npmv
 if FOLDER:
     PROGRAMS = {name: pathlib.Path(FOLDER[0]).resolve() / name for name in ("ranges", "npmver")}
 RANGES = PROGRAMS["ranges"]
+BINDINGS, LIBRARY = TOP / "bindings", TOP / "crates/semver_c/out/libsemver_c.a"
+# How many bytes a table of C's questions has at most.
+TABLE = 1 << 17
 PAGES = ("README.md", "docs/RANGES.md")
 # How much more memory, in kilobytes, many lines may take than few.
 SLACK = 1024
@@ -277,6 +280,43 @@ def plenty():
     yield ask("ranges", ["sort"], "[" + ",".join(['"1.0.0"'] * PLENTY) + "]", (lines, "", 0))
 
 
+def questions():
+    """The C library answers the bindings' questions, and some about long lists, with a small stack, too. Its program holds tables of
+    so many bytes, and asks here over a heap that doesn't fail."""
+    subprocess.run([BINDINGS / "library.py"], check=True)
+    lines, alternatives = "\n".join(["1"] * (TABLE // 2 - 64)), "||".join(["1"] * (TABLE // 3 - 64))
+    versions = "\n".join(["1.0.0"] * (TABLE // 6 - 64))
+    tables = [
+        (BINDINGS / "questions.jsonl").read_text(),
+        *(
+            json.dumps(row)
+            for row in (
+                [["common_all", "npm", "restricted", lines], ["yes", "1.0.0"]],
+                [["fits", "npm", "restricted", alternatives, "2.0.0"], ["no"]],
+                [["fits", "normalized", "restricted", alternatives, "1.2.0"], ["yes"]],
+                [["min_version", "npm", "restricted", alternatives], ["yes", "1.0.0"]],
+                [["best", "npm", "restricted", "1", versions], ["yes", "0"]],
+                [["lowest", "npm", "restricted", "1", versions], ["yes", "0"]],
+                [["list_best", "npm", "restricted", "1", versions], ["yes", "0"]],
+                [["list_lowest", "npm", "restricted", "1", versions], ["yes", "0"]],
+            )
+        ),
+    ]
+    kit = pathlib.Path(subprocess.run(["rt", "doc"], capture_output=True, text=True, check=True).stdout.strip()).parent
+    with tempfile.TemporaryDirectory() as name:
+        room = pathlib.Path(name)
+        (room / "heap.c").write_text("long heap_alive(void) { return 0; }\nlong heap_limit(long n) { return n & 0; }\n")
+        sources = [BINDINGS / "c/questions.c", room / "heap.c", LIBRARY, kit / "c/liblibc_c.a"]
+        subprocess.run(["cc", "-O1", f"-I{BINDINGS}/c", "-o", room / "questions", *sources], check=True)
+        for table in tables:
+            (room / "table").write_text(table)
+            flat = subprocess.run([sys.executable, BINDINGS / "flatten.py", room / "table"], capture_output=True, check=True).stdout
+            (room / "flat").write_bytes(flat)
+            count = len(table.splitlines())
+            wanted, found = (f"{count} questions; 0 blocks are still alive\n", "", 0), run(room / "questions", {"arguments": [str(room / "flat")]})
+            yield None if found == wanted else f"{table[:60]} .. of C, with a small stack: wanted {wanted}, found {found}"
+
+
 def examples(page):
     """The command lines of a page and what it says they print."""
     for block in re.findall(r"^```console\n(.*?)^```$", page, re.S | re.M):
@@ -339,7 +379,7 @@ def main():
     for program in PROGRAMS.values():
         if not program.is_file():
             sys.exit(f"{program} isn't built: run rt ci first")
-    checks = (rows, unwritable, unreadable, long_texts, many_ranges, plenty, pages, memory, scarce, closed)
+    checks = (rows, unwritable, unreadable, long_texts, many_ranges, plenty, questions, pages, memory, scarce, closed)
     if FOLDER:
         checks = (rows,)
     outcomes = [outcome for check in checks for outcome in check()]
