@@ -3,6 +3,8 @@
 // It writes screenshots to out/page.
 
 import assert from 'node:assert/strict';
+import { readFileSync } from 'node:fs';
+import { createServer } from 'node:http';
 import { fileURLToPath } from 'node:url';
 import { Browser } from './browser.mjs';
 
@@ -123,6 +125,38 @@ async function pictures() {
   assert.ok(isNarrow, 'the page is wider than a phone');
 }
 
+/** Serves the package and its tests to this machine, since a page of a file may import nothing. */
+async function served() {
+  const top = new URL('../', import.meta.url);
+  const server = createServer(({ url }, response) => {
+    const isScript = /^\/(out\/package|tests)\/[\w-]+\.m?js$/.test(url);
+    response.setHeader('Content-Type', isScript ? 'text/javascript' : 'text/html');
+    response.end(isScript ? readFileSync(new URL(url.slice(1), top)) : '');
+  });
+  await new Promise((resolve) => server.listen(0, '127.0.0.1', resolve));
+  return server;
+}
+
+/** The stack and the memory run out in the package, as in tests/interrupted.test.mjs. */
+async function interrupted() {
+  const server = await served();
+  const tab = await Browser.open(`http://127.0.0.1:${server.address().port}/`);
+  try {
+    const { overflows, wrong, wrongByMemory } = await tab.evaluate(`(async () => {
+      const [semver, { default: compat }, { wasm }] = await Promise.all(['index', 'compat', 'calls'].map((it) => import('/out/package/' + it + '.js')));
+      const { overflow, questionsOf, runOutOfMemory } = await import('/tests/interrupted.mjs');
+      const questions = questionsOf(semver, compat);
+      return { ...overflow(questions), wrongByMemory: runOutOfMemory(questions, wasm) };
+    })()`);
+    assert.deepEqual([wrong, wrongByMemory], [[], []]);
+    assert.ok(overflows > 500, `${overflows} overflows`);
+    console.log(`The stack ran out ${overflows} times in a browser, and each later answer was right`);
+  } finally {
+    await tab.close();
+    server.close();
+  }
+}
+
 try {
   assert.deepEqual(browser.errors, []);
   for (const part of [meaning, mistakes, comparison, options, accessibility, pictures]) await part();
@@ -132,3 +166,4 @@ try {
 } finally {
   await browser.close();
 }
+await interrupted();

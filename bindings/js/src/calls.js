@@ -11,28 +11,67 @@ export const INVALID_VERSION = -3;
 export const NOT_UTF8 = -4;
 export const NO_MEMORY = -6;
 
-const bytes = Uint8Array.from(atob(base64), (character) => character.charCodeAt(0));
-
-/** The exports of the module. */
-export const wasm = new WebAssembly.Instance(new WebAssembly.Module(bytes)).exports;
-
 const encoder = new TextEncoder();
 const decoder = new TextDecoder();
 const SHORT = 48; // up to this length a loop over the characters is faster than TextEncoder and TextDecoder
 const NOT_ENCODABLE = 0xff; // a byte that is in no UTF-8, so that a text with it is rejected
 
-let memory = new Uint8Array(wasm.memory.buffer);
+const compiled = new WebAssembly.Module(Uint8Array.from(atob(base64), (character) => character.charCodeAt(0)));
+let instance = new WebAssembly.Instance(compiled).exports;
+let replaced = 0;
+let isCalling = false;
+let memory = new Uint8Array(instance.memory.buffer);
 let input = 0;
 let room = 0;
 
+// What points each export at a new instance.
+const links = [];
+
+/** An export that stays the same function when the instance is replaced, and marks that it runs. */
+function linked(name) {
+  let call = instance[name];
+  links.push(() => {
+    call = instance[name];
+  });
+  return (a, b, c, d) => {
+    isCalling = true;
+    const result = call(a, b, c, d);
+    isCalling = false;
+    return result;
+  };
+}
+
+/** The calls of the module. */
+export const wasm = Object.fromEntries(Object.keys(instance).filter((name) => name !== 'memory').map((name) => [name, linked(name)]));
+
+/**
+ * Replaces the instance if its last call didn't return: where the stack or the time of a `vm` runs out, or the call traps, it leaves values
+ * half changed. What the old instance held is lost. If this is interrupted itself, the next call begins it again.
+ */
+function replace() {
+  instance = new WebAssembly.Instance(compiled).exports;
+  for (const link of links) link();
+  memory = new Uint8Array(instance.memory.buffer);
+  room = 0;
+  replaced++;
+  isCalling = false;
+}
+
+/** The number of the instance that answers the next call. An address is of use to the instance alone that returned it. */
+export function currentInstance() {
+  if (isCalling) replace();
+  return replaced;
+}
+
 /** The memory of the module. When it grows, the view of before has no length. */
-function view() {
-  if (memory.length === 0) memory = new Uint8Array(wasm.memory.buffer);
+export function view() {
+  if (memory.length === 0) memory = new Uint8Array(instance.memory.buffer);
   return memory;
 }
 
 /** Makes room for texts with so many UTF-16 units, each of which has three bytes at most. */
 function reserve(units) {
+  if (isCalling) replace();
   const size = 3 * units + 1;
   if (size <= room) return;
   const start = wasm.input(size) >>> 0; // exports return signed numbers

@@ -1,11 +1,12 @@
 // The ranges that were asked last, which the library holds. A call with the text of a range thus parses it once, and makes no value that
 // must be freed.
 
-import { NO_MEMORY, YES, ask2, handle, outOfMemory, wasm, write } from './calls.js';
+import { NO_MEMORY, YES, ask2, currentInstance, handle, outOfMemory, wasm, write } from './calls.js';
 
 const MOST_RANGES = 1000;
 const LONGEST_RANGE = 256;
 const caches = [new Map(), new Map(), new Map()];
+let cachedIn = currentInstance();
 
 /** Parses a range, and returns the address at which the library holds it, or the code why it doesn't. */
 export function parse(grammar, range) {
@@ -21,8 +22,15 @@ function forgetOldest(cache) {
   if (address > 0) wasm.range_free(address);
 }
 
+/** Forgets the addresses of an instance that was replaced. */
+function forgetAll() {
+  for (const cache of caches) cache.clear();
+  cachedIn = currentInstance();
+}
+
 /** The address at which the library holds a short range, or the code why it doesn't. */
 function addressOf(grammar, range) {
+  if (cachedIn !== currentInstance()) forgetAll();
   const cache = caches[grammar];
   let address = cache.get(range);
   if (address !== undefined) return address;

@@ -4,10 +4,15 @@ import { INVALID_VERSION, NO, YES, ask2, codes, places, wasm, write } from './ca
 import { errorOf, kindOf } from './errors.js';
 import { versionText } from './versions.js';
 
+/** Throws where the versions aren't an array. */
+export function expectArray(versions) {
+  if (!Array.isArray(versions)) throw new TypeError(`versions must be an array, not ${kindOf(versions)}`);
+  return versions;
+}
+
 /** The texts of a list of versions, each a text or a `Version`. */
 export function textsOf(versions) {
-  if (!Array.isArray(versions)) throw new TypeError(`versions must be an array, not ${kindOf(versions)}`);
-  return versions.map((version, index) => versionText(version, `versions[${index}]`));
+  return expectArray(versions).map((version, index) => versionText(version, `versions[${index}]`));
 }
 
 /** The texts as lines. A line break within a version is whitespace, as a space is. */

@@ -1,42 +1,56 @@
 // Ranges, and lists of versions, that the library holds between calls.
 
-import { YES, ask2, codes, handle, isWellFormed, outOfMemory, places, text, wasm, write } from './calls.js';
+import { YES, ask2, codes, currentInstance, handle, isWellFormed, outOfMemory, places, text, wasm, write } from './calls.js';
 import { errorOf, expectString, kindOf, optionsOf } from './errors.js';
 import { parse } from './held.js';
-import { linesOf, textsOf } from './lists.js';
+import { expectArray, linesOf, textsOf } from './lists.js';
 import { versionText } from './versions.js';
 
-const collected = new FinalizationRegistry(({ address, free }) => free(address));
+const collected = new FinalizationRegistry(release);
+
+/** Frees what is held, unless it was freed, or its instance replaced. */
+function release(held) {
+  const { address } = held;
+  held.address = 0;
+  if (address !== 0 && held.instance === currentInstance()) held.free(address);
+}
 
 /** A value that the library holds until `free()`, or until this object is collected. */
 class Held {
-  #address;
-  #free;
+  #make;
+  #held;
 
-  constructor(address, free) {
-    this.#address = address;
-    this.#free = free;
-    collected.register(this, { address, free }, this);
+  /** `make` makes the value and returns its address: now, and again where the instance was replaced. */
+  constructor(make, free) {
+    this.#make = make;
+    this.#held = { address: make(), instance: currentInstance(), free };
+    collected.register(this, this.#held, this);
   }
 
   get address() {
-    if (this.#address === 0) throw new TypeError('the value was freed');
-    return this.#address;
+    const held = this.#held;
+    if (held.address === 0) throw new TypeError('the value was freed');
+    if (held.instance !== currentInstance()) {
+      held.address = this.#make();
+      held.instance = currentInstance();
+    }
+    return held.address;
   }
 
   free() {
-    if (this.#address === 0) return;
     collected.unregister(this);
-    this.#free(this.#address);
-    this.#address = 0;
+    release(this.#held);
   }
 }
 
 /** Parses a range, which the library then holds. */
 function hold(grammar, range) {
-  const address = parse(grammar, range);
-  if (address < 0) throw errorOf(address, grammar, [range]);
-  return new Held(address, wasm.range_free);
+  const make = () => {
+    const address = parse(grammar, range);
+    if (address < 0) throw errorOf(address, grammar, [range]);
+    return address;
+  };
+  return new Held(make, wasm.range_free);
 }
 
 // What the library holds of a `Range`, which is private to it, and its options.
@@ -108,9 +122,12 @@ function expectRange(range, name) {
 
 /** Parses versions, which the library then holds. */
 function holdList(versions) {
-  const texts = textsOf(versions).map((text) => (isWellFormed(text) ? text : ''));
-  if (wasm.list_read(write(linesOf(texts))) !== YES) throw outOfMemory();
-  return new Held(handle(), wasm.list_free);
+  const make = () => {
+    const texts = textsOf(versions).map((text) => (isWellFormed(text) ? text : ''));
+    if (wasm.list_read(write(linesOf(texts))) !== YES) throw outOfMemory();
+    return handle();
+  };
+  return new Held(make, wasm.list_free);
 }
 
 export class VersionList {
@@ -118,8 +135,8 @@ export class VersionList {
   #versions;
 
   constructor(versions) {
-    this.#held = holdList(versions);
-    this.#versions = [...versions];
+    this.#versions = [...expectArray(versions)];
+    this.#held = holdList(this.#versions);
   }
 
   get length() {

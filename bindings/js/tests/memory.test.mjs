@@ -5,9 +5,9 @@ import { test } from 'node:test';
 import { setTimeout } from 'node:timers/promises';
 import compat from '../out/package/compat.js';
 import * as semver from '../out/package/index.js';
-import { wasm } from '../out/package/calls.js';
+import { view, wasm } from '../out/package/calls.js';
 
-const pages = () => wasm.memory.buffer.byteLength;
+const pages = () => view().length;
 
 /** Calls a million times, and returns by how many blocks and bytes the library's heap grows after the first calls. */
 function growth(call) {

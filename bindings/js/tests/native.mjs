@@ -9,7 +9,7 @@ import { execFileSync } from 'node:child_process';
 import { mkdtempSync, rmSync, writeFileSync } from 'node:fs';
 import { tmpdir } from 'node:os';
 import { join } from 'node:path';
-import { wasm } from '../out/package/calls.js';
+import { view, wasm } from '../out/package/calls.js';
 import { Texts } from './random.mjs';
 
 const [program, count = '100000', seed = '1'] = process.argv.slice(2);
@@ -137,7 +137,7 @@ function askHeld(question, input) {
   const code = wasm.range_read(first, one.length);
   if (code !== 1) return code;
   const range = wasm.handle();
-  new Uint8Array(wasm.memory.buffer).copyWithin(input, input + one.length, input + one.length + other.length);
+  view().copyWithin(input, input + one.length, input + one.length + other.length);
   const answer = askHeldBy(range, question);
   wasm.range_free(range);
   return answer;
@@ -146,12 +146,12 @@ function askHeld(question, input) {
 function ask(question) {
   const { name, allocations, first, last, one, other } = question;
   const input = wasm.input(one.length + other.length);
-  new Uint8Array(wasm.memory.buffer).set(Buffer.concat([one, other]), input);
+  view().set(Buffer.concat([one, other]), input);
   wasm.heap_allow(allocations === NO_LIMIT ? -1 : allocations);
   const lengths = CALLS[name][2]?.(first, one.length, other.length, last);
   const code = lengths ? wasm[name](...lengths) : askHeld(question, input);
   wasm.heap_allow(-1);
-  const written = new Uint8Array(wasm.memory.buffer, wasm.output(), wasm.output_len());
+  const written = view().subarray(wasm.output(), wasm.output() + wasm.output_len());
   const numbers = Buffer.alloc(12);
   [code, wasm.place(), written.length].forEach((number, index) => numbers.writeInt32LE(number, 4 * index));
   return Buffer.concat([numbers, written]);
