@@ -14,6 +14,7 @@ export const NO_MEMORY = -6;
 const encoder = new TextEncoder();
 const decoder = new TextDecoder();
 const SHORT = 48; // up to this length a loop over the characters is faster than TextEncoder and TextDecoder
+const ADDRESSES = 2 ** 32;
 const NOT_ENCODABLE = 0xff; // a byte that is in no UTF-8, so that a text with it is rejected
 
 const compiled = new WebAssembly.Module(Uint8Array.from(atob(base64), (character) => character.charCodeAt(0)));
@@ -74,7 +75,7 @@ function reserve(units) {
   if (isCalling) replace();
   const size = 3 * units + 1;
   if (size <= room) return;
-  const start = wasm.input(size) >>> 0; // exports return signed numbers
+  const start = size < ADDRESSES ? wasm.input(size) >>> 0 : 0; // exports return signed numbers
   if (start === 0) throw outOfMemory();
   input = start;
   room = size;
@@ -99,7 +100,9 @@ function put(text, offset) {
     }
     if (i === length) return length;
   }
-  const { written } = encoder.encodeInto(text, target.subarray(start));
+  // Some hosts write nothing into a view of more than 2 GiB.
+  const { read, written } = encoder.encodeInto(text, target.subarray(start, start + 3 * length));
+  if (read !== length) throw outOfMemory();
   if (written === length || isWellFormed(text)) return written;
   target[start] = NOT_ENCODABLE;
   return 1;

@@ -5,7 +5,7 @@ import { test } from 'node:test';
 import { setTimeout } from 'node:timers/promises';
 import compat from '../out/package/compat.js';
 import * as semver from '../out/package/index.js';
-import { view, wasm } from '../out/package/calls.js';
+import { view, wasm, write } from '../out/package/calls.js';
 
 const pages = () => view().length;
 
@@ -84,4 +84,22 @@ test('a text that is larger than memory throws', () => {
   const large = '1'.repeat(2 ** 28);
   assert.throws(() => semver.filter('1', Array.from({ length: 3 }, () => large)), RangeError);
   assert.equal(semver.matches('1', '1.0.0'), true);
+});
+
+test('where memory has more than 2 GiB, texts are read as ever', () => {
+  assert.throws(() => semver.matches('1', '1'.repeat(3.6e8)), semver.VersionSyntaxError);
+  assert.ok(pages() > 2 ** 31);
+  assert.equal(semver.matches('^1.2', '1.3.0'), true);
+  assert.throws(() => semver.matches('1 é', '1.0.0'), semver.RangeSyntaxError);
+  assert.throws(() => semver.canonical(`${'1.2.3 '.repeat(20)}!`), semver.RangeSyntaxError);
+  assert.deepEqual(semver.filter('1 || 2', ['1.0.0', `2.0.0+${'b'.repeat(100)}`, '3.0.0']).length, 2);
+});
+
+test('a text for which there are no addresses throws', () => {
+  assert.throws(() => write({ length: 2 ** 32 / 3 }), { name: 'RangeError', message: 'out of memory' });
+});
+
+test('a text that the host encodes in part throws', (context) => {
+  context.mock.method(TextEncoder.prototype, 'encodeInto', () => ({ read: 0, written: 0 }));
+  assert.throws(() => semver.canonical('é'), { name: 'RangeError', message: 'out of memory' });
 });
