@@ -17,7 +17,15 @@ const SHORT = 48; // up to this length a loop over the characters is faster than
 const ADDRESSES = 2 ** 32;
 const NOT_ENCODABLE = 0xff; // a byte that is in no UTF-8, so that a text with it is rejected
 
-const compiled = new WebAssembly.Module(Uint8Array.from(atob(base64), (character) => character.charCodeAt(0)));
+/** The bytes of the module. A loop takes a fifth of the time of `Uint8Array.from`, which takes longer than all else in an import. */
+function bytesOfModule() {
+  const characters = atob(base64);
+  const bytes = new Uint8Array(characters.length);
+  for (let i = 0; i < bytes.length; i++) bytes[i] = characters.charCodeAt(i);
+  return bytes;
+}
+
+const compiled = new WebAssembly.Module(bytesOfModule());
 let instance = new WebAssembly.Instance(compiled).exports;
 let replaced = 0;
 let isCalling = false;
