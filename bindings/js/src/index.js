@@ -7,7 +7,7 @@ import {
 } from './errors.js';
 import { askFits } from './held.js';
 import { filterList, findInList, linesOf, sortList } from './lists.js';
-import { compareTexts, versionText } from './versions.js';
+import { Version, compareTexts, versionText } from './versions.js';
 
 export { PackageSyntaxError, RangeSyntaxError, TagError, VersionSyntaxError } from './errors.js';
 export { Range, VersionList } from './ranges.js';
@@ -41,6 +41,7 @@ export function sort(versions) {
 }
 
 export function compare(one, other) {
+  if (one instanceof Version) return one.compare(other);
   return compareTexts(versionText(one, 'one'), versionText(other, 'other'));
 }
 

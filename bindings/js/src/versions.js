@@ -6,6 +6,7 @@ import { VERSION, expectString, invalid, kindOf } from './errors.js';
 export class Version {
   #text;
   #parts;
+  #numbers;
 
   constructor(version) {
     const code = wasm.version(write(expectString(version, 'version')));
@@ -39,7 +40,23 @@ export class Version {
   }
 
   compare(other) {
-    return compareTexts(this.#text, versionText(other, 'other'));
+    const order = other instanceof Version ? this.#orderByNumbers(other) : undefined;
+    return order ?? compareTexts(this.#text, versionText(other, 'other'));
+  }
+
+  /** The order by the three numbers; undefined where they are the same and one is of a pre-release, or where one isn't exact. */
+  #orderByNumbers(other) {
+    const [numbers, others] = [this.#comparable, other.#comparable];
+    for (let i = 0; i < numbers.length; i++) {
+      const difference = numbers[i] - others[i];
+      if (difference !== 0) return Number.isNaN(difference) ? undefined : Math.sign(difference);
+    }
+    return 0;
+  }
+
+  /** The three numbers, and 0 for a release; NaN in place of what can't be compared so. */
+  get #comparable() {
+    return (this.#numbers ??= comparableOf(this.#text));
   }
 
   toString() {
@@ -56,6 +73,12 @@ export function partsOf(version) {
   const code = wasm.version_parts(write(version));
   if (code === NO_MEMORY) throw outOfMemory();
   return code === YES ? json() : undefined;
+}
+
+function comparableOf(version) {
+  const [numbers] = version.split(/[-+]/, 1);
+  const exact = numbers.split('.').map((number) => (Number.isSafeInteger(Number(number)) ? Number(number) : NaN));
+  return [...exact, version[numbers.length] === '-' ? NaN : 0];
 }
 
 function exactly(number) {

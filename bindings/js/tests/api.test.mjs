@@ -3,9 +3,18 @@
 import assert from 'node:assert/strict';
 import { createRequire } from 'node:module';
 import { test } from 'node:test';
+import { wasm } from '../out/package/calls.js';
 import * as modules from '../out/package/index.js';
 
 const common = createRequire(import.meta.url)('../out/package/index.cjs');
+
+test('held versions whose numbers differ, and held releases, are compared without a call', (context) => {
+  const [one, same, pre, higher] = ['1.2.3', '1.2.3+b', '1.2.3-a', '1.10.0-a'].map((text) => new modules.Version(text));
+  const { mock } = context.mock.method(wasm, 'compare');
+  const orders = [one.compare(higher), pre.compare(higher), modules.compare(higher, one), one.compare(same)];
+  assert.deepEqual([orders, mock.callCount()], [[-1, -1, 1, 0], 0]);
+  assert.deepEqual([one.compare(pre), mock.callCount()], [1, 1]);
+});
 
 for (const [kind, semver] of [['ES modules', modules], ['CommonJS', common]]) {
   const {
@@ -155,6 +164,21 @@ for (const [kind, semver] of [['ES modules', modules], ['CommonJS', common]]) {
     assert.deepEqual([version.preRelease, version.build], [['beta', '1'], ['b', '2']]);
     assert.equal(`${version}`, '1.2.3-beta.1+b.2');
     assert.ok(attempt(() => new Version('9007199254740993.0.0').major) instanceof RangeError);
+  });
+
+  test(`${kind}: held versions have the order of their texts`, () => {
+    const texts = [
+      '1.2.3', '1.2.3+b', '1.2.3-a', '1.2.3-b', '1.2.3-a+b-c', '1.2.4', '1.3.0-a', '2.0.0', '1.2.9007199254740991', '1.2.9007199254740992',
+      '1.2.9007199254740993', '9007199254740992.0.0', '9007199254740993.0.0', '9007199254740993.0.0-a', '18446744073709551615.2.3',
+    ];
+    for (const one of texts) {
+      for (const other of texts) {
+        const [held, right] = [new Version(one), semver.compare(one, other)];
+        assert.equal(held.compare(new Version(other)), right, `${one} and ${other}`);
+        assert.equal(semver.compare(held, new Version(other)), right, `${one} and ${other}`);
+        assert.equal(held.compare(other), right, `${one} and the text ${other}`);
+      }
+    }
   });
 
   test(`${kind}: a list of versions`, () => {
