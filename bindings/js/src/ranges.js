@@ -6,51 +6,50 @@ import { parse } from './held.js';
 import { expectArray, linesOf, textsOf } from './lists.js';
 import { versionText } from './versions.js';
 
-const collected = new FinalizationRegistry(release);
+const collected = new FinalizationRegistry((held) => held.free());
 
-/** Frees what is held, unless it was freed, or its instance replaced. */
-function release(held) {
-  const { address } = held;
-  held.address = 0;
-  if (address !== 0 && held.instance === currentInstance()) held.free(address);
-}
-
-/** A value that the library holds until `free()`, or until this object is collected. */
+/** A value that the library holds for an object, until `free()`, or until the object is collected. */
 class Held {
   #make;
-  #held;
+  #free;
+  #address;
+  #instance;
 
   /** `make` makes the value and returns its address: now, and again where the instance was replaced. */
-  constructor(make, free) {
+  constructor(owner, make, free) {
     this.#make = make;
-    this.#held = { address: make(), instance: currentInstance(), free };
-    collected.register(this, this.#held, this);
+    this.#free = free;
+    this.#address = make();
+    this.#instance = currentInstance();
+    collected.register(owner, this, this);
   }
 
   get address() {
-    const held = this.#held;
-    if (held.address === 0) throw new TypeError('the value was freed');
-    if (held.instance !== currentInstance()) {
-      held.address = this.#make();
-      held.instance = currentInstance();
+    if (this.#address === 0) throw new TypeError('the value was freed');
+    if (this.#instance !== currentInstance()) {
+      this.#address = this.#make();
+      this.#instance = currentInstance();
     }
-    return held.address;
+    return this.#address;
   }
 
+  /** Frees the value, unless it was freed, or its instance replaced. */
   free() {
+    const address = this.#address;
+    this.#address = 0;
     collected.unregister(this);
-    release(this.#held);
+    if (address !== 0 && this.#instance === currentInstance()) this.#free(address);
   }
 }
 
-/** Parses a range, which the library then holds. */
-function hold(grammar, range) {
+/** Parses a range, which the library then holds for its owner. */
+function hold(owner, grammar, range) {
   const make = () => {
     const address = parse(grammar, range);
     if (address < 0) throw errorOf(address, grammar, [range]);
     return address;
   };
-  return new Held(make, wasm.range_free);
+  return new Held(owner, make, wasm.range_free);
 }
 
 // What the library holds of a `Range`, which is private to it, and its options.
@@ -68,7 +67,7 @@ export class Range {
   constructor(range, options) {
     this.#text = expectString(range, 'range');
     this.#options = optionsOf(options);
-    this.#held = hold(this.#options.grammar, range);
+    this.#held = hold(this, this.#options.grammar, range);
   }
 
   get text() {
@@ -120,14 +119,14 @@ function expectRange(range, name) {
   return range;
 }
 
-/** Parses versions, which the library then holds. */
-function holdList(versions) {
+/** Parses versions, which the library then holds for their owner. */
+function holdList(owner, versions) {
   const make = () => {
     const texts = textsOf(versions).map((text) => (isWellFormed(text) ? text : ''));
     if (wasm.list_read(write(linesOf(texts))) !== YES) throw outOfMemory();
     return handle();
   };
-  return new Held(make, wasm.list_free);
+  return new Held(owner, make, wasm.list_free);
 }
 
 export class VersionList {
@@ -136,7 +135,7 @@ export class VersionList {
 
   constructor(versions) {
     this.#versions = [...expectArray(versions)];
-    this.#held = holdList(this.#versions);
+    this.#held = holdList(this, this.#versions);
   }
 
   get length() {
