@@ -41,6 +41,9 @@ test('a trap', () => {
   trap();
   assert.equal(answersOf(questions), right);
   assert.equal(currentInstance(), before + 1);
+  assert.equal(semver.canonical('é'.repeat(1e6)).length, 1e6); // memory grows
+  trap();
+  assert.equal(answersOf(questions), right);
 });
 
 test('memory runs out in each question', () => {

@@ -24,6 +24,23 @@ test('a million short calls in one loop hold no memory', () => {
   assert.deepEqual(growth((i) => new semver.Version(`1.${i % 100}.0`)), [0, 0]);
 });
 
+test('a long range is not held, and a larger text leaves the place of the one before', () => {
+  const before = wasm.heap_blocks();
+  for (let i = 0; i < 100; i++) assert.equal(semver.matches(`${'1 || '.repeat(60)}${i}.1`, '1.0.0'), true);
+  for (let length = 1000; length < 1_000_000; length *= 2) assert.equal(semver.canonical('é'.repeat(length)).length, length);
+  assert.ok(wasm.heap_blocks() - before <= 2, `${wasm.heap_blocks() - before} blocks`);
+});
+
+test('a text of three bytes a character has room', () => {
+  for (let length = 1000; length < 1_000_000; length *= 2) {
+    semver.canonical('a'.repeat(length));
+    const ranges = Array.from({ length: 100 }, (_, i) => new semver.Range(`^1.${i + 1}.0`));
+    assert.equal(semver.canonical('日'.repeat(length)), '日'.repeat(length));
+    assert.ok(ranges.every((range) => range.canonical === range.text), `${length} characters`);
+    for (const range of ranges) range.free();
+  }
+});
+
 test('freed values leave no block', () => {
   assert.deepEqual(growth((i) => new semver.VersionList([`1.${i % 100}.0`, 'x']).free()), [0, 0]);
   assert.deepEqual(growth((i) => new semver.Range(`^1.${i % 100}.0`).free()), [0, 0]);
@@ -87,7 +104,7 @@ test('a text that is larger than memory throws', () => {
 });
 
 test('where memory has more than 2 GiB, texts are read as ever', () => {
-  assert.throws(() => semver.matches('1', '1'.repeat(3.6e8)), semver.VersionSyntaxError);
+  assert.equal(write('a'.repeat(3.6e8)), 3.6e8);
   assert.ok(pages() > 2 ** 31);
   assert.equal(semver.matches('^1.2', '1.3.0'), true);
   assert.throws(() => semver.matches('1 é', '1.0.0'), semver.RangeSyntaxError);
