@@ -76,7 +76,8 @@ export class Browser {
   }
 
   async press(key, code = key, modifiers = 0) {
-    const keys = { key, code, modifiers, windowsVirtualKeyCode: { Tab: 9, ' ': 32 }[key] ?? 0, text: key === ' ' ? ' ' : undefined };
+    const typed = { ' ': ' ', Enter: '\r' }[key];
+    const keys = { key, code, modifiers, windowsVirtualKeyCode: { Tab: 9, Enter: 13, ' ': 32 }[key] ?? 0, text: typed };
     await this.#send('Input.dispatchKeyEvent', { type: 'keyDown', ...keys });
     await this.#send('Input.dispatchKeyEvent', { type: 'keyUp', ...keys });
   }

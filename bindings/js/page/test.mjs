@@ -26,7 +26,15 @@ const cells = () => browser.evaluate(`[...document.querySelectorAll('#alternativ
   [...row.children].map((cell) => cell.textContent))`);
 const text = (selector) => browser.evaluate(`document.querySelector('${selector}')?.textContent ?? ''`);
 const count = (selector) => browser.evaluate(`document.querySelectorAll('${selector}').length`);
+const attributes = (selector, name) => browser.evaluate(`[...document.querySelectorAll('${selector}')].map((it) => it.getAttribute('${name}'))`);
+const texts = (selector) => browser.evaluate(`[...document.querySelectorAll('${selector}')].map((it) => it.textContent)`);
 const isHidden = (id) => browser.evaluate(`document.getElementById('${id}').hidden`);
+
+/** Where the arrows point, from the place where each begins to its tip. */
+async function arrows() {
+  const places = (await attributes('svg path', 'd')).map((path) => path.match(/[\d.]+(?=,)/g).map(Number));
+  return places.map(([back, tip]) => (tip < back ? 'left' : 'right'));
+}
 
 async function meaning() {
   assert.deepEqual(await pairs('summary'), { 'Canonical form': '^1.2.0 || 3', 'Lowest version': '1.2.0' });
@@ -34,7 +42,8 @@ async function meaning() {
     ['>=1.2 <2', '>=1.2.0 <2.0.0', 'none', '1.2.0'],
     ['3.x', '>=3.0.0 <4.0.0', 'none', '3.0.0'],
   ]);
-  assert.equal(await count('svg circle'), 4);
+  const [matching, other] = ['currentColor', 'var(--background)'];
+  assert.deepEqual(await attributes('svg circle', 'fill'), [matching, other, matching, other]);
   await type('range', '>1.2.3-beta.1 <=2.0.0 || <1 || 5.0.0');
   assert.deepEqual(await cells(), [
     ['>1.2.3-beta.1 <=2.0.0', '>1.2.3-beta.1 <=2.0.0', 'of 1.2.3', '1.2.3-beta.1.0'],
@@ -42,6 +51,13 @@ async function meaning() {
     ['5.0.0', 'only 5.0.0', 'none', '5.0.0'],
   ]);
   assert.equal(await count('svg .pre-releases'), 1);
+  assert.deepEqual(await texts('svg .axis-label'), ['0.0.0', '1.0.0', '1.2.3-beta.1', '1.2.3', '2.0.0', '5.0.0']);
+  await type('range', '>=1.2.3-a <2.0.0-b');
+  assert.equal((await cells())[0][2], 'of 1.2.3 and 2.0.0');
+  await type('range', '*');
+  assert.deepEqual(await arrows(), ['left', 'right']);
+  await type('range', '>=1.2');
+  assert.deepEqual(await arrows(), ['right']);
   await type('range', '>1.0.0 <1.0.1');
   assert.equal(await count('svg .nothing'), 1);
   assert.deepEqual(await pairs('summary'), { 'Canonical form': '>1.0.0 <1.0.1', 'Lowest version': 'no version matches' });
@@ -52,7 +68,7 @@ async function meaning() {
 
 async function mistakes() {
   await type('range', '^1.2.3.4');
-  assert.match(await text('#range-problem'), /Unexpected character/);
+  assert.match(await text('#range-problem'), /Character 7: Unexpected character/);
   assert.match(await text('#range-problem pre'), /^\^1\.2\.3\.4\n {6}\^$/);
   assert.equal(await browser.evaluate(`document.getElementById('range').getAttribute('aria-invalid')`), 'true');
   await type('range', '1 || foo bar');
@@ -60,6 +76,10 @@ async function mistakes() {
   assert.equal(await text('svg .left-out'), 'foo bar');
   assert.match(await text('#range-problem pre'), /\n {8}\^$/);
   await shot('mistake.png');
+  await type('range', '1 || 😀 ||1..2');
+  assert.deepEqual(await texts('#range-problem pre'), ['1 || 😀 ||1..2\n     ^', '1 || 😀 ||1..2\n           ^']);
+  await browser.press('Enter');
+  assert.equal(await browser.evaluate(`document.getElementById('range').value`), '1 || 😀 ||1..2');
 }
 
 async function comparison() {
@@ -77,6 +97,8 @@ async function comparison() {
   assert.equal(await count('svg .second'), 1);
   await type('other', '>=1.3.0 <2 || >=2');
   assert.equal((await pairs('answers'))['Second within first'], 'yes');
+  await type('other', 'latest');
+  assert.equal(await isHidden('comparison'), true);
 }
 
 async function options() {

@@ -28,6 +28,9 @@ for (const [kind, semver] of [['ES modules', modules], ['CommonJS', common]]) {
     assert.equal(semver.matches('^1.0.0', '1.2.0-rc.1'), false);
     assert.equal(semver.matches('^1.0.0', '1.2.0-rc.1', { preReleases: true }), true);
     assert.equal(semver.matches('1', '1.5.0', { grammar: 'strict' }), true);
+    const long = `${'5 || '.repeat(100)}^1.0.0`; // the library doesn't hold it
+    assert.equal(semver.matches(long, '1.2.0-rc.1'), false);
+    assert.equal(semver.matches(long, '1.2.0-rc.1', { preReleases: true }), true);
   });
 
   test(`${kind}: lists`, () => {
@@ -124,8 +127,13 @@ for (const [kind, semver] of [['ES modules', modules], ['CommonJS', common]]) {
     assert.ok(attempt(() => new Version('1.0.0-\ud800')) instanceof VersionSyntaxError);
     assert.ok(attempt(() => semver.filter('1\ud800', ['1.0.0'])) instanceof RangeSyntaxError);
     assert.equal(attempt(() => semver.filter('1', ['1.0.0', '\ud800'])).index, 1);
+    const filtered = attempt(() => semver.filter('1', ['1.0.0', 'y', '1.x']));
+    assert.deepEqual([filtered.text, filtered.index], ['y', 1]);
     assert.equal(attempt(() => semver.matches('latest', '1.0.0')).tag, 'latest');
     assert.ok(attempt(() => semver.isSubset('1', 'latest')) instanceof TagError);
+    assert.deepEqual([['1', 'latest'], ['next', '1']].map((two) => attempt(() => semver.isSubset(...two)).tag), ['latest', 'next']);
+    const thrown = [() => semver.matches('1', 'x'), () => semver.parsePackage('@'), () => semver.matches('latest', '1.0.0')].map(attempt);
+    assert.deepEqual(thrown.map(({ name }) => name), ['VersionSyntaxError', 'PackageSyntaxError', 'TagError']);
   });
 
   test(`${kind}: arguments of another type`, () => {
@@ -137,6 +145,11 @@ for (const [kind, semver] of [['ES modules', modules], ['CommonJS', common]]) {
       [() => semver.matches('1', '1.0.0', 'npm'), 'options must be an object, not string'],
       [() => semver.matches('1', '1.0.0', { includePrerelease: true }), 'options has no "includePrerelease"'],
       [() => semver.matches('1', '1.0.0', { grammar: 'toString' }), 'options.grammar must be "npm", "normalized" or "strict"'],
+      [() => semver.matches('1', '1.0.0', { grammar: '' }), 'options.grammar must be "npm", "normalized" or "strict"'],
+      [() => semver.matches('1', '1.0.0', null), 'options must be an object, not null'],
+      [() => semver.matches('1', '1.0.0', { preReleases: 1 }), 'options.preReleases must be a boolean, not number'],
+      [() => semver.common('1'), 'ranges must be an array, not string'],
+      [() => semver.common(['1', 2]), 'ranges[1] must be a string, not number'],
       [() => new Range([]), 'range must be a string, not an array'],
       [() => new Range('1').overlaps('1'), 'other must be a Range, not string'],
       [() => semver.parsePackage(undefined), 'specifier must be a string, not undefined'],
@@ -152,15 +165,22 @@ for (const [kind, semver] of [['ES modules', modules], ['CommonJS', common]]) {
     assert.equal(range.canonical, '^1.2.0');
     assert.equal(range.tag, undefined);
     assert.equal(new Range('latest').tag, 'latest');
+    assert.equal(new Range(' latest ').tag, 'latest');
+    assert.deepEqual([false, true].map((preReleases) => new Range('^1', { preReleases }).matches('1.2.0-rc.1')), [false, true]);
     assert.equal(range.matches('1.3.0'), true);
     assert.equal(range.equals(new Range('^1.2')), true);
     assert.equal(range.equals(range) && range.overlaps(range), true);
+    const [none] = ['>2 <1'].map((text) => new Range(text));
+    assert.equal(none.overlaps(none), false);
     assert.equal(JSON.stringify({ range }), '{"range":">=1.2 <2"}');
     range.free();
     range.free();
     assert.equal(attempt(() => range.matches('1.3.0')).message, 'the value was freed');
     const version = new Version('v1.2.3-beta.1+b.2');
     assert.deepEqual([version.major, version.minor, version.patch], [1, 2, 3]);
+    assert.deepEqual([version.preRelease, version.build], [['beta', '1'], ['b', '2']]);
+    version.preRelease.reverse();
+    version.build.pop();
     assert.deepEqual([version.preRelease, version.build], [['beta', '1'], ['b', '2']]);
     assert.equal(`${version}`, '1.2.3-beta.1+b.2');
     assert.ok(attempt(() => new Version('9007199254740993.0.0').major) instanceof RangeError);
@@ -196,6 +216,10 @@ for (const [kind, semver] of [['ES modules', modules], ['CommonJS', common]]) {
     assert.equal(attempt(() => list.filter(new Range('latest'))).tag, 'latest');
     list.free();
     assert.equal(attempt(() => list.filter(new Range('1'))).message, 'the value was freed');
+    const versions = ['1.2.0', '2.0.0'];
+    const kept = new VersionList(versions);
+    versions.reverse();
+    assert.deepEqual([kept.filter(new Range('1')), kept.sort()], [['1.2.0'], ['1.2.0', '2.0.0']]);
   });
 
   test(`${kind}: using frees a value`, { skip: !Symbol.dispose && 'the host has no using' }, () => {

@@ -10,6 +10,7 @@ const require = createRequire(import.meta.url);
 const { Comparator, Range, SemVer, UnsupportedError } = compat;
 const LEFT_OUT = ['inc', 'diff', 'coerce', 'outside', 'gtr', 'ltr', 'simplifyRange', 'toComparators'];
 const INTERNAL = ['re', 'src', 'tokens'];
+const installed = (process.env.NODE_SEMVERS ?? '').split(':').filter((folder) => folder && existsSync(folder));
 
 test('what is left out throws, and names the page', () => {
   const calls = LEFT_OUT.map((name) => () => compat[name]('1.0.0', '2.0.0'));
@@ -33,6 +34,7 @@ test('includePrerelease throws in each call that has options', () => {
     assert.doesNotThrow(() => compat[name](...given, { loose: true, includePrerelease: false }), name);
     assert.doesNotThrow(() => compat[name](...given, true), name);
   }
+  assert.throws(() => compat.satisfies('1.0.0', '1', { includePrerelease: 1 }), UnsupportedError);
   assert.throws(() => new Range('1', options), UnsupportedError);
   assert.throws(() => new SemVer('1.0.0', options), UnsupportedError);
 });
@@ -54,9 +56,39 @@ test('invalid texts are null or false where they are in node-semver, and else th
   }
   assert.equal(compat.satisfies('x', '1'), false);
   assert.equal(compat.satisfies(null, '1'), false);
+  assert.equal(compat.satisfies({}, 'x!'), false);
+  assert.equal(new Range('1').test(null), false);
+  assert.equal(compat.maxSatisfying([null, '', '1.0.0', undefined], '1'), '1.0.0');
   assert.throws(() => compat.satisfies(1, '1'), { name: 'TypeError', message: 'version must be a string or a SemVer, not number' });
   assert.throws(() => compat.maxSatisfying('1.0.0', '1'), { name: 'TypeError', message: 'versions must be an array, not string' });
 });
+
+// node-semver's answers, in each release that is installed and here.
+const libraries = [['here', compat], ...installed.map((folder) => [`in node-semver ${require(`${folder}/package.json`).version}`, require(folder)])];
+for (const [where, library] of libraries) {
+  test(`the fields and methods of values, ${where}`, () => {
+    const { Range, SemVer } = library;
+    assert.equal(new SemVer(' 1.2.3 ').raw, ' 1.2.3 ');
+    assert.deepEqual(new SemVer('1.0.0-9007199254740990.9007199254740991').prerelease, [9007199254740990, '9007199254740991']);
+    assert.deepEqual([{ loose: true }, { loose: false }, true, undefined].map((it) => new SemVer('1.2.3', it).loose), [true, false, true, false]);
+    assert.equal(new Range('1', { loose: true }).loose, true);
+    assert.equal(new SemVer('1.2.3-a').compareMain('1.2.3'), 0);
+    const pairs = [['1.0.0', '2.0.0-a'], ['2.0.0-a', '1.0.0'], ['1.0.0-a', '2.0.0-b'], ['1.0.0', '2.0.0']];
+    assert.deepEqual(pairs.map(([one, other]) => new SemVer(one).comparePre(other)), [1, -1, -1, 0]);
+    assert.ok(library.minVersion('^1.2') instanceof SemVer);
+    assert.equal(library.minVersion('^1.2').version, '1.2.0');
+  });
+
+  test(`versions are cleaned and compared by an operator, ${where}`, () => {
+    assert.deepEqual(['=v1.2.3', 'vvv1.2.3', '  ==vv1.2.3\n'].map((text) => library.clean(text)), ['1.2.3', '1.2.3', '1.2.3']);
+    assert.deepEqual(['===', '!==', '==', '!='].map((operator) => library.cmp('1.2.3', operator, 'v1.2.3')), [false, true, true, false]);
+    for (const operator of ['toString', '=>', 'a']) {
+      assert.throws(() => library.cmp('1.2.3', operator, '1.2.3'), { name: 'TypeError', message: `Invalid operator: ${operator}` });
+    }
+  });
+}
+
+test('a range of a range keeps its text', () => assert.equal(new Range(new Range('>=1.2 <2')).raw, '>=1.2 <2'));
 
 test('lists keep their items', () => {
   const items = ['1.2.0', 'v1.10.0', '1.9.0'].map((text) => new SemVer(text));
@@ -67,7 +99,7 @@ test('lists keep their items', () => {
   assert.deepEqual(list, [items[1], items[2], items[0]]);
 });
 
-for (const folder of (process.env.NODE_SEMVERS ?? '').split(':').filter((it) => it && existsSync(it))) {
+for (const folder of installed) {
   test(`the names of node-semver ${require(`${folder}/package.json`).version}`, () => {
     const semver = require(folder);
     const missing = Object.keys(semver).filter((name) => !(name in compat) && !INTERNAL.includes(name));
