@@ -8,6 +8,7 @@ import { createRequire } from 'node:module';
 import { performance } from 'node:perf_hooks';
 import compat from './out/package/compat.js';
 import * as semver from './out/package/index.js';
+import { timesOfImports } from './tests/imports.mjs';
 
 const RUNS = 5;
 const LIST = 100_000;
@@ -51,13 +52,20 @@ const range = new semver.Range(RANGE);
 const others = other && new other.Range(RANGE);
 const when = (call) => (other ? call() : undefined);
 
+const held = versions.map((text) => new semver.Version(text));
+const theirs = other && versions.map((text) => new other.SemVer(text));
 const both = (time, ask) => [time((...it) => ask(compat, ...it)), when(() => time((...it) => ask(other, ...it)))];
 const list = new semver.VersionList(long);
 
+const modules = [new URL('out/package/index.js', import.meta.url).href, ...(folder ? [createRequire(import.meta.url).resolve(folder)] : [])];
+const [imported, importedThere] = timesOfImports(modules).map((time) => `${time.toFixed(1)} ms`);
+
 print('', 'here', version && `node-semver ${version}`);
+print('import, in a fresh process', imported, importedThere);
 print('a version and a held range', each((i) => range.matches(item(i))), when(() => each((i) => others.test(item(i)))));
 print('two texts, satisfies', ...both(each, (library, i) => library.satisfies(item(i), RANGE)));
 print('two texts, matches', each((i) => semver.matches(RANGE, item(i))));
+print('compare two held versions', each((i) => held[i % 1000].compare(held[(i * 7) % 1000])), when(() => each((i) => theirs[i % 1000].compare(theirs[(i * 7) % 1000]))));
 print('compare', ...both(each, (library, i) => library.compare(item(i), '1.2.3')));
 print('valid', ...both(each, (library, i) => library.valid(item(i))));
 print('subset', ...both(each, (library, i) => library.subset(`^1.${i % 100}.0`, RANGE)));

@@ -1,11 +1,12 @@
 // What the package is made of: it imports nothing but itself, so that it runs in every host, and both kinds of modules have one API.
 
 import assert from 'node:assert/strict';
-import { readFileSync, readdirSync } from 'node:fs';
+import { existsSync, readFileSync, readdirSync } from 'node:fs';
 import { createRequire } from 'node:module';
 import { test } from 'node:test';
 import * as compat from '../out/package/compat.js';
 import * as index from '../out/package/index.js';
+import { timesOfImports } from './imports.mjs';
 
 const require = createRequire(import.meta.url);
 const folder = new URL('../out/package/', import.meta.url);
@@ -45,3 +46,10 @@ test('each exported declaration has a comment', () => {
     assert.deepEqual(bare, [], name);
   }
 });
+
+for (const semver of (process.env.NODE_SEMVERS ?? '').split(':').filter((it) => it && existsSync(it))) {
+  test(`an import takes at most twice the time of node-semver's in ${semver}`, () => {
+    const [ours, theirs] = timesOfImports([new URL('index.js', folder).href, require.resolve(semver)]);
+    assert.ok(ours <= 2 * theirs, `${ours} and ${theirs} ms`);
+  });
+}
