@@ -133,5 +133,4 @@ function show() {
 }
 
 for (const event of ['input', 'change']) document.querySelector('form').addEventListener(event, show);
-document.querySelector('form').addEventListener('submit', (event) => event.preventDefault());
 show();

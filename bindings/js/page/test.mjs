@@ -19,6 +19,13 @@ async function type(id, text) {
   else await browser.type(text);
 }
 
+/** Chooses an item of a list as someone who clicks on it does. */
+const choose = (id, value) => browser.evaluate(`{
+  const list = document.getElementById('${id}');
+  list.value = '${value}';
+  list.dispatchEvent(new Event('change', { bubbles: true }));
+}`);
+
 /** The terms and values of a list. */
 const pairs = (id) => browser.evaluate(`Object.fromEntries([...document.querySelectorAll('#${id} dt')].map((it) =>
   [it.textContent, it.nextElementSibling.textContent]))`);
@@ -109,6 +116,10 @@ async function options() {
   assert.equal((await pairs('summary'))['Lowest version'], '1.0.1-0');
   assert.equal((await cells())[0][2], 'all between the bounds');
   await browser.press(' ', 'Space');
+  await type('range', '1.x');
+  await choose('grammar', 'normalized'); // in which this is a tag
+  assert.deepEqual(await pairs('summary'), { Tag: '1.x' });
+  await choose('grammar', 'npm');
 }
 
 /** The fields come in order by the Tab key, and a screen reader is given their labels, the picture's text and the table. */

@@ -17,6 +17,17 @@ function growth(call) {
   return [wasm.heap_blocks() - before[0], pages() - before[1]];
 }
 
+// This one comes first: a later one would find room for its texts.
+test('a text of three bytes a character has room', () => {
+  for (let length = 1000; length < 1_000_000; length *= 2) {
+    semver.mayBeTag('a'.repeat(length));
+    const ranges = Array.from({ length: 1000 }, (_, i) => new semver.Range(`^1.${i + 1}.0`));
+    assert.equal(semver.canonical('日'.repeat(length)), '日'.repeat(length));
+    assert.ok(ranges.every((range) => range.canonical === range.text), `${length} characters`);
+    for (const range of ranges) range.free();
+  }
+});
+
 test('a million short calls in one loop hold no memory', () => {
   assert.deepEqual(growth((i) => semver.matches('^1.2', `1.${i % 100}.0`)), [0, 0]);
   assert.deepEqual(growth((i) => compat.satisfies('1.2.3', `^1.${i % 3000}.0`)), [0, 0]);
@@ -29,16 +40,6 @@ test('a long range is not held, and a larger text leaves the place of the one be
   for (let i = 0; i < 100; i++) assert.equal(semver.matches(`${'1 || '.repeat(60)}${i}.1`, '1.0.0'), true);
   for (let length = 1000; length < 1_000_000; length *= 2) assert.equal(semver.canonical('é'.repeat(length)).length, length);
   assert.ok(wasm.heap_blocks() - before <= 2, `${wasm.heap_blocks() - before} blocks`);
-});
-
-test('a text of three bytes a character has room', () => {
-  for (let length = 1000; length < 1_000_000; length *= 2) {
-    semver.canonical('a'.repeat(length));
-    const ranges = Array.from({ length: 100 }, (_, i) => new semver.Range(`^1.${i + 1}.0`));
-    assert.equal(semver.canonical('日'.repeat(length)), '日'.repeat(length));
-    assert.ok(ranges.every((range) => range.canonical === range.text), `${length} characters`);
-    for (const range of ranges) range.free();
-  }
 });
 
 test('freed values leave no block', () => {
