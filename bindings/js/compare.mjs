@@ -1,9 +1,9 @@
 // Asks node-semver and deno-semver/compat the same random questions, and says why answers differ:
 //
-//     node compare.mjs NODE_SEMVER [QUESTIONS] [SEED]
+//     node compare.mjs NODE_SEMVER [QUESTIONS] [SEED..]
 //
-// NODE_SEMVER is the folder of node-semver, QUESTIONS how many each call is asked. The status is 1 if a difference is neither a documented
-// one nor shown wrong by node-semver's own `satisfies`.
+// NODE_SEMVER is the folder of node-semver, QUESTIONS how many each call is asked by each seed; without a seed it takes a random one. The
+// status is 1 if a difference is neither a documented one nor shown wrong by node-semver's own `satisfies`.
 
 import { createRequire } from 'node:module';
 import compat from './out/package/compat.js';
@@ -12,11 +12,12 @@ import { Texts } from './tests/random.mjs';
 
 Error.stackTraceLimit = 0; // many calls throw, and a trace takes longer than the rest
 
-const [folder, count = '50000', seed = '1'] = process.argv.slice(2);
+const [folder, count = '50000', ...given] = process.argv.slice(2);
+const seeds = given.length ? given.map(Number) : [Math.floor(Math.random() * 2 ** 32)];
 const require = createRequire(import.meta.url);
 const semver = require(folder);
 const { version: release } = require(`${folder}/package.json`);
-const texts = new Texts(Number(seed));
+let texts;
 const WRONG = "node-semver: wrong by its own satisfies";
 const UNEXPLAINED = 'UNEXPLAINED';
 
@@ -130,8 +131,8 @@ function copy(argument) {
   return Array.isArray(argument) ? [...argument] : argument;
 }
 
-function run(name, [ask, why]) {
-  const reasons = new Map();
+/** Asks a call, and counts why answers differ: the reasons, each with how often it is one, and the shortest example. */
+function run(name, [ask, why], reasons) {
   for (let i = 0; i < Number(count); i++) {
     const asked = ask();
     const [ours, theirs] = [compat, semver].map((library) => answer(library, (it) => it[name](...asked.map(copy))));
@@ -140,19 +141,24 @@ function run(name, [ask, why]) {
     const [times, example] = reasons.get(reason) ?? [0, [asked, ours, theirs]];
     reasons.set(reason, [times + 1, shorter(example, [asked, ours, theirs])]);
   }
-  return reasons;
 }
 
 function shorter(one, other) {
   return JSON.stringify(other).length < JSON.stringify(one).length ? other : one;
 }
 
+const found = Object.fromEntries(Object.keys(CALLS).map((name) => [name, new Map()]));
+for (const seed of seeds) {
+  texts = new Texts(seed);
+  for (const [name, call] of Object.entries(CALLS)) run(name, call, found[name]);
+}
+
 let isExplained = true;
-console.log(`node-semver ${release}, ${count} questions a call`);
-for (const [name, call] of Object.entries(CALLS)) {
-  const reasons = [...run(name, call)].sort(([, [a]], [, [b]]) => b - a);
-  console.log(`${name}: ${reasons.reduce((sum, [, [times]]) => sum + times, 0)} differ`);
-  for (const [reason, [times, [asked, ours, theirs]]] of reasons) {
+console.log(`node-semver ${release}, ${count * seeds.length} questions a call, by the seeds ${seeds.join(', ')}`);
+for (const [name, reasons] of Object.entries(found)) {
+  const sorted = [...reasons].sort(([, [a]], [, [b]]) => b - a);
+  console.log(`${name}: ${sorted.reduce((sum, [, [times]]) => sum + times, 0)} differ`);
+  for (const [reason, [times, [asked, ours, theirs]]] of sorted) {
     console.log(`  ${times} ${reason}: ${JSON.stringify(asked).slice(1, -1)}: ${JSON.stringify(ours)}, there ${JSON.stringify(theirs)}`);
     isExplained &&= reason !== UNEXPLAINED;
   }

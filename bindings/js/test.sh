@@ -25,12 +25,12 @@ native() {
     node "$here/tests/native.mjs" "$out/native" 100000
 }
 
-# Compares the package with the node-semver in this folder, by so many questions a call.
+# Compares the package with the node-semver in this folder, by so many questions a call and seed.
 compare() {
     log=$out/compared-$2.log
     if [ ! -f "$1/package.json" ]; then
         echo "JavaScript: no node-semver in $1, so the package isn't compared with it"
-    elif node "$here/compare.mjs" "$1" "$2" >"$log"; then
+    elif node "$here/compare.mjs" "$1" "$2" 1 2 3 4 5 >"$log"; then
         echo "$(head -1 "$log"): each difference is explained"
     else
         cat "$log"
@@ -54,8 +54,8 @@ if [ "$1" = speed ]; then
     speed
     exit
 fi
-compare "$debian" 50000 & first=$!
-compare "$npm" 10000 & second=$!
+compare "$debian" 10000 & first=$!
+compare "$npm" 2000 & second=$!
 native
 node --expose-gc --test --test-reporter=dot "$here"/tests/*.test.mjs
 "$here/tests/packed.sh" "$out"

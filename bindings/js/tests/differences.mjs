@@ -62,7 +62,7 @@ export function whyMatchDiffers(semver, version, range, ours) {
 }
 
 const WRONG_READ = [
-  [/[=v<>~^]\s*[=v]/, 'two operators'],
+  [/[=v<>~^]\s*[=v]|~\s+>/, 'two operators'],
   [/[\dxX]\s*\*|\*\s*[^\s|]/, 'characters beside *'],
 ];
 
