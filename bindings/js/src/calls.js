@@ -134,6 +134,15 @@ export function ask1(call, grammar, text, last) {
   return call(grammar, write(text), last);
 }
 
+/** Asks whether the version matches the range at this address. It's the call that is asked most, and so it marks by itself that it runs. */
+export function askHeld(address, version, pre) {
+  const length = write(version);
+  isCalling = true;
+  const code = instance.range_fits(address, length, pre);
+  isCalling = false;
+  return code;
+}
+
 /** Compares two texts of versions. */
 export function askCompare(one, other) {
   reserve(one.length + other.length);

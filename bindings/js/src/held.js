@@ -1,7 +1,7 @@
 // The ranges that were asked last, which the library holds. A call with the text of a range thus parses it once, and makes no value that
 // must be freed.
 
-import { NO_MEMORY, YES, ask2, currentInstance, handle, outOfMemory, wasm, write } from './calls.js';
+import { NO_MEMORY, YES, ask2, askHeld, currentInstance, handle, outOfMemory, wasm, write } from './calls.js';
 
 const MOST_RANGES = 1000;
 const LONGEST_RANGE = 256;
@@ -44,5 +44,5 @@ function addressOf(grammar, range) {
 export function askFits(grammar, range, version, pre) {
   const address = range.length <= LONGEST_RANGE ? addressOf(grammar, range) : 0;
   if (address < 0) return address;
-  return address > 0 ? wasm.range_fits(address, write(version), pre) : ask2(wasm.fits, grammar, range, version, pre);
+  return address > 0 ? askHeld(address, version, pre) : ask2(wasm.fits, grammar, range, version, pre);
 }

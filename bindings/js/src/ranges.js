@@ -1,6 +1,6 @@
 // Ranges, and lists of versions, that the library holds between calls.
 
-import { YES, ask2, codes, currentInstance, handle, isWellFormed, outOfMemory, places, text, wasm, write } from './calls.js';
+import { YES, ask2, askHeld, codes, currentInstance, handle, isWellFormed, outOfMemory, places, text, wasm, write } from './calls.js';
 import { errorOf, expectString, kindOf, optionsOf } from './errors.js';
 import { parse } from './held.js';
 import { expectArray, linesOf, textsOf } from './lists.js';
@@ -85,7 +85,7 @@ export class Range {
 
   matches(version) {
     const tested = versionText(version, 'version');
-    const code = wasm.range_fits(this.#held.address, write(tested), this.#options.pre);
+    const code = askHeld(this.#held.address, tested, this.#options.pre);
     if (code >= 0) return code === YES;
     throw errorOf(code, this.#options.grammar, [this.#text], [tested]);
   }
