@@ -13,7 +13,7 @@ export const LARGE = 'numbers above 2^53 - 1';
 /** The comparators without the `-0` that node-semver adds to ends which aren't written so. */
 function withoutAddedZero(comparators, text) {
   return comparators.replace(/<(\d+\.\d+\.\d+)-0(?= |$)/g, (end, numbers) => {
-    const isWritten = new RegExp(`<[\\s=v]*${numbers.replaceAll('.', '\\.')}-0(?![\\w.])`).test(text);
+    const isWritten = new RegExp(`<(?!=)[\\s=v]*${numbers.replaceAll('.', '\\.')}-0(?![\\w.])`).test(text);
     return isWritten ? end : `<${numbers}`;
   });
 }
