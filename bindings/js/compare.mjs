@@ -118,7 +118,7 @@ const CALLS = {
   intersects: [() => [range(), range()], (asked, ours) => whyTwoDiffer(asked, ours, (a, b) => a && b)],
   subset: [() => [range(), range()], (asked, ours) => whyTwoDiffer(asked, !ours, (a, b) => a && !b)],
   valid: [() => [version()], whyVersionDiffers],
-  clean: [() => [version()], whyVersionDiffers],
+  clean: [() => [version()], ([item]) => whyVersionDiffers([item.trim().replace(/^[=v]+/, '')])],
   prerelease: [() => [version()], whyVersionDiffers],
   compare: [() => [version(), version()], whyVersionDiffers],
   compareBuild: [() => [version(), version()], whyVersionDiffers],

@@ -63,7 +63,7 @@ export function whyMatchDiffers(semver, version, range, ours) {
 
 const WRONG_READ = [
   [/[=v<>~^]\s*[=v]|~\s+>/, 'two operators'],
-  [/[\dxX]\s*\*|\*\s*[^\s|]/, 'characters beside *'],
+  [/[\dxX]\s*[<>]?=?\s*\*|\*\s*[^\s|]/, 'characters beside *'],
 ];
 
 /** Why only one of both reads a range. */
