@@ -38,7 +38,7 @@ function comparatorsOf(semver, text, isLenient) {
 /** Whether the version matches by node-semver, with these differences from it. */
 function matchesWith(semver, version, range, differences) {
   const isLenient = differences.includes('lenient texts');
-  const parsed = semver.parse(version, isLenient ? LOOSE : undefined);
+  const parsed = semver.parse(version.trim(), isLenient ? LOOSE : undefined); // `satisfies` trims in each release, `parse` in 7.6 alone
   let texts = range.split('||');
   const leavesOut = differences.includes('alternatives left out');
   if (leavesOut && texts.length > 1 && texts.at(-1).trim() === '') texts = texts.slice(0, -1);

@@ -1,6 +1,6 @@
 // Calls that are interrupted, and the questions whose answers must be right afterwards. Node and browsers run this alike.
 
-const VERSIONS = Array.from({ length: 200 }, (_, i) => `${i % 5}.${i % 17}.${i % 29}${i % 4 ? '' : `-rc.${i % 7}`}`);
+const VERSIONS = Array.from({ length: 40 }, (_, i) => `${i % 5}.${i % 17}.${i % 29}${i % 4 ? '' : `-rc.${i % 7}`}`);
 const LONG = `${'^1.2.3-beta.1 || '.repeat(20)}^3`; // too long for the cache
 
 /** One question for each way into the library: calls on texts, cached ranges and held values, and what they return. */

@@ -47,9 +47,8 @@ test('each exported declaration has a comment', () => {
   }
 });
 
-for (const semver of (process.env.NODE_SEMVERS ?? '').split(':').filter((it) => it && existsSync(it))) {
-  test(`an import takes at most twice the time of node-semver's in ${semver}`, () => {
-    const [ours, theirs] = timesOfImports([new URL('index.js', folder).href, require.resolve(semver)]);
-    assert.ok(ours <= 2 * theirs, `${ours} and ${theirs} ms`);
-  });
-}
+test("an import takes at most twice the time of node-semver's", () => {
+  const installed = (process.env.NODE_SEMVERS ?? '').split(':').filter((it) => it && existsSync(it));
+  const [ours, ...theirs] = timesOfImports([new URL('index.js', folder).href, ...installed.map((it) => require.resolve(it))]);
+  for (const time of theirs) assert.ok(ours <= 2 * time, `${ours} and ${time} ms`);
+});
