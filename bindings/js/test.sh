@@ -54,11 +54,11 @@ if [ "$1" = speed ]; then
     speed
     exit
 fi
-compare "$debian" 10000 & first=$!
+compare "$debian" 8000 & first=$!
 compare "$npm" 2000 & second=$!
 native
 node --expose-gc --test --test-reporter=dot "$here"/tests/*.test.mjs
 "$here/tests/packed.sh" "$out"
+if has chromium; then node "$here/page/test.mjs"; else echo "JavaScript: no chromium, so the page isn't tried"; fi
 wait $first
 wait $second
-if has chromium; then node "$here/page/test.mjs"; else echo "JavaScript: no chromium, so the page isn't tried"; fi

@@ -20,7 +20,7 @@ function withoutAddedZero(comparators, text) {
 
 /** Whether a comparator of the alternative starts at 0.0.0 here: where node-semver has no start for it, and it isn't `*`. */
 function startsAtZero(semver, text) {
-  const comparators = text.replace(/([<>=~^])\s+/g, '$1').split(/[\s,&]+/);
+  const comparators = text.replace(/([<>=~^])\s+/g, '$1').match(/\S+\s+-\s+\S+|[^\s,&]+/g) ?? [];
   return comparators.some((comparator) => {
     const form = semver.validRange(comparator, LOOSE);
     if (form === '*') return !/^[*xX]?$/.test(comparator);
