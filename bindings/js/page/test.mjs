@@ -33,7 +33,8 @@ const cells = () => browser.evaluate(`[...document.querySelectorAll('#alternativ
   [...row.children].map((cell) => cell.textContent))`);
 const text = (selector) => browser.evaluate(`document.querySelector('${selector}')?.textContent ?? ''`);
 const count = (selector) => browser.evaluate(`document.querySelectorAll('${selector}').length`);
-const attributes = (selector, name) => browser.evaluate(`[...document.querySelectorAll('${selector}')].map((it) => it.getAttribute('${name}'))`);
+const attributes = (selector, name) => browser.evaluate(`[...document.querySelectorAll('${selector}')].map((it) =>
+  it.getAttribute('${name}'))`);
 const texts = (selector) => browser.evaluate(`[...document.querySelectorAll('${selector}')].map((it) => it.textContent)`);
 const isHidden = (id) => browser.evaluate(`document.getElementById('${id}').hidden`);
 
@@ -176,7 +177,8 @@ async function interrupted() {
   const tab = await Browser.open(`http://127.0.0.1:${server.address().port}/`);
   try {
     const { overflows, wrong, wrongByMemory } = await tab.evaluate(`(async () => {
-      const [semver, { default: compat }, { wasm }] = await Promise.all(['index', 'compat', 'calls'].map((it) => import('/out/package/' + it + '.js')));
+      const modules = ['index', 'compat', 'calls'].map((name) => import('/out/package/' + name + '.js'));
+      const [semver, { default: compat }, { wasm }] = await Promise.all(modules);
       const { overflow, questionsOf, runOutOfMemory } = await import('/tests/interrupted.mjs');
       const questions = questionsOf(semver, compat);
       return { ...overflow(questions), wrongByMemory: runOutOfMemory(questions, wasm) };

@@ -64,13 +64,15 @@ test('invalid texts are null or false where they are in node-semver, and else th
 });
 
 // node-semver's answers, in each release that is installed and here.
-const libraries = [['here', compat], ...installed.map((folder) => [`in node-semver ${require(`${folder}/package.json`).version}`, require(folder)])];
+const nameOf = (folder) => `in node-semver ${require(`${folder}/package.json`).version}`;
+const libraries = [['here', compat], ...installed.map((folder) => [nameOf(folder), require(folder)])];
 for (const [where, library] of libraries) {
   test(`the fields and methods of values, ${where}`, () => {
     const { Range, SemVer } = library;
     assert.equal(new SemVer(' 1.2.3 ').raw, ' 1.2.3 ');
     assert.deepEqual(new SemVer('1.0.0-9007199254740990.9007199254740991').prerelease, [9007199254740990, '9007199254740991']);
-    assert.deepEqual([{ loose: true }, { loose: false }, true, undefined].map((it) => new SemVer('1.2.3', it).loose), [true, false, true, false]);
+    const loose = [{ loose: true }, { loose: false }, true, undefined].map((options) => new SemVer('1.2.3', options).loose);
+    assert.deepEqual(loose, [true, false, true, false]);
     assert.equal(new Range('1', { loose: true }).loose, true);
     assert.equal(new SemVer('1.2.3-a').compareMain('1.2.3'), 0);
     const pairs = [['1.0.0', '2.0.0-a'], ['2.0.0-a', '1.0.0'], ['1.0.0-a', '2.0.0-b'], ['1.0.0', '2.0.0']];

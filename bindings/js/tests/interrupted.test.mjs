@@ -29,7 +29,8 @@ test('the time of a vm runs out in each question', () => {
   const before = currentInstance();
   for (const [name, call] of Object.entries(questions)) {
     for (const timeout of [1, 2, 5]) {
-      assert.throws(() => vm.runInNewContext('for (;;) try { call() } catch {}', { call }, { timeout }), { code: 'ERR_SCRIPT_EXECUTION_TIMEOUT' });
+      const run = () => vm.runInNewContext('for (;;) try { call() } catch {}', { call }, { timeout });
+      assert.throws(run, { code: 'ERR_SCRIPT_EXECUTION_TIMEOUT' });
       assert.equal(answersOf(questions), right, name);
     }
   }
@@ -84,7 +85,8 @@ test('a value of an instance that was replaced is freed once', () => {
   assert.ok(wasm.heap_blocks() < before);
 });
 
-test('a collected value of an instance that was replaced is not freed', { skip: typeof gc === 'undefined' && 'no --expose-gc' }, async () => {
+const needsGc = { skip: typeof gc === 'undefined' && 'no --expose-gc' };
+test('a collected value of an instance that was replaced is not freed', needsGc, async () => {
   const collected = new FinalizationRegistry(() => left--);
   let left = 100;
   for (let i = 0; i < left; i++) collected.register(new semver.Range(`^1.${i}`));

@@ -47,8 +47,15 @@ test('each exported declaration has a comment', () => {
   }
 });
 
+// On a busy machine a time may be long by chance: more rounds make the shortest ones shorter.
 test("an import takes at most twice the time of node-semver's", () => {
   const installed = (process.env.NODE_SEMVERS ?? '').split(':').filter((it) => it && existsSync(it));
-  const [ours, ...theirs] = timesOfImports([new URL('index.js', folder).href, ...installed.map((it) => require.resolve(it))]);
-  for (const time of theirs) assert.ok(ours <= 2 * time, `${ours} and ${time} ms`);
+  const imported = [new URL('index.js', folder).href, ...installed.map((it) => require.resolve(it))];
+  let shortest = imported.map(() => Infinity);
+  const isFast = () => shortest.slice(1).every((theirs) => shortest[0] <= 2 * theirs);
+  for (let round = 0; round < 3 || (round < 20 && !isFast()); round++) {
+    const times = timesOfImports(imported);
+    shortest = shortest.map((time, index) => Math.min(time, times[index]));
+  }
+  assert.ok(isFast(), `${shortest} ms`);
 });
