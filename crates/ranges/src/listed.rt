@@ -2,12 +2,12 @@
 
 use crate::comparing::{print_tag, print_version, reject};
 use answers::object::Object;
+use answers::outdated::standing_of;
 use answers::reading::ranges;
 use answers::sorting::{Order, sorted_places};
 use clap::ArgMatches;
 use deno_semver::resolve::max_satisfying_with;
 use deno_semver::{PreRelease, Version, VersionReq};
-use semver_req::common::values::Flavour;
 use serde_json::Value;
 use std::alloc::Global;
 use std::io::Write;
@@ -76,8 +76,12 @@ impl<'a> Listed<'a> {
         if range.tag().is_some() {
             return None;
         }
-        let place = max_satisfying_with(self.versions.as_slice(), range, self.pre_release)?;
-        Some(self.texts.get(place)?.as_str())
+        self.text(max_satisfying_with(self.versions.as_slice(), range, self.pre_release))
+    }
+
+    // The text of the version at a place, if there is one.
+    fn text(&self, place: Option<usize>) -> Option<&str> {
+        Some(self.texts.get(place?)?.as_str())
     }
 }
 
@@ -150,23 +154,30 @@ pub fn best<R: Input, O: Write, E: Write>(
     Ok(status.worse(print_version(console, listed.highest(first))?))
 }
 
-/// `ranges outdated RANGE [VERSION..]`: the highest version that matches, and the highest of all. The status is 1 if there is a
-/// higher one than that which matches.
+/// `ranges outdated RANGE [VERSION..]`: the highest version that matches, and the highest that counts. The status is 1 if the range is
+/// outdated.
 pub fn outdated<R: Input, O: Write, E: Write>(
     rt: &R,
     console: &mut Console<O, E>,
     matches: &ArgMatches<'_>,
 ) -> Result<Status, Stop> {
     let ranges = all_ranges(console, matches)?;
-    let [range, ..] = ranges.as_slice() else {
-        return Ok(Status::Usage);
-    };
-    let Ok(any) = answers::reading::range(console.alloc, Flavour::Npm, 0, "*") else {
-        return Err(Stop::OutOfMemory);
+    // With a tag the command has ended already.
+    let range = match ranges.as_slice() {
+        [range, ..] if range.tag().is_none() => range,
+        _ => return Ok(Status::Usage),
     };
     let mut listed = Listed::new(console.alloc, &[], console.options.pre_release);
     let status = take_all(rt, console, matches.get_strs("VERSION"), &mut listed)?;
-    let (matching, highest) = (listed.highest(range), listed.highest(&any));
+    let standing = standing_of(
+        console.options.pre_release,
+        range,
+        listed.versions.as_slice(),
+    );
+    let (matching, highest) = (
+        listed.text(standing.matching),
+        listed.text(standing.highest),
+    );
     if console.options.json {
         let json = Object::new(console.alloc)
             .put_text("highest", highest)
@@ -179,7 +190,7 @@ pub fn outdated<R: Input, O: Write, E: Write>(
         let end = console.options.line_end();
         write!(console.out, "{matching} {highest}{end}")?;
     }
-    Ok(status.worse(Status::of(highest.is_none() || matching == highest)))
+    Ok(status.worse(Status::of(!standing.is_outdated())))
 }
 
 /// `ranges sort [VERSION..]`: the versions in the order of precedence; equal ones keep theirs.
