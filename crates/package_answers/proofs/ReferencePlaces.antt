@@ -139,7 +139,7 @@ module _ (kind : PackageKind) (text : List ℕ) (body : List ℕ) (body_is : (b 
           let first = scheme_first outcome in
           bad_version kind (kind, registry, outcome) (of_range first.0 all first.1 are)
       by_place fault is reports (Some at) (errors.Range pieces) h are = absurd are
-      by_place fault is reports (Some at) (errors.Part error) h are = other_fault kind e (kind, registry, is) reports (rw (are.0.0, are.0.1) h, are.1 ∙ is_failure)
+      by_place fault is reports (Some at) (errors.Part error) h are = other_fault kind e registry is reports (rw (are.0.0, are.0.1) h, are.1 ∙ is_failure)
 
       pub reported : (place : Option (ℕ × Option Part)) (all : PackageErrors)
           → ((k : PackageKind) (fault : ReferenceFault) → IsReferenceOutcome k text (Err fault) → ReportsReference k text fault e → ((b : List ℕ) → text ≡ scheme_of k ++ b → body ≡ b)

@@ -110,7 +110,7 @@ pub data AreReferenceErrors (text : List ℕ) (errors : PackageErrors) : Type 0 
   bad_version : (kind : PackageKind) {version : List ℕ} → IsRegistryOutcome text (Err (BadText (BadVersion version)))
       → AreBehindScheme kind text errors → AreReferenceErrors text errors
   other_fault : (kind : PackageKind) {fault : ReferenceFault} (error : PackageReqReferenceParseError)
-      → IsRegistryOutcome text (Err fault) → ReportsReference kind text fault error
+      → IsRegistryOf text kind → IsReferenceOutcome kind text (Err fault) → ReportsReference kind text fault error
       → IsPartError (IsReferenceFaultAt text fault) (reference_failure (unboxed error)) errors
       → AreReferenceErrors text errors
 

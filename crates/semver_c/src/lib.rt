@@ -739,7 +739,7 @@ pub extern "C" fn semver_req_fits(
     code
 }
 
-/// Whether the version of one handle matches the range of the other: 0 no, 1 yes, 2 the range is a tag.
+/// Whether the version of one handle matches the range of the other: 0 no, 1 yes, -1 the range is a tag.
 #[unsafe(no_mangle)]
 pub extern "C" fn semver_req_matches(
     alloc: Global,
