@@ -21,7 +21,7 @@ from ._calls import (
     pre_number,
     read,
 )
-from ._errors import InvalidPackage, InvalidRange, InvalidVersion, TagError
+from ._errors import InvalidPackage, InvalidRange, InvalidVersion, SemverError
 from ._values import Range, Version, range_text
 
 AnyRange = Union[str, Range]
@@ -362,7 +362,10 @@ def may_be_tag(text: str) -> bool:
     >>> may_be_tag("latest"), may_be_tag("a b")
     (True, False)
     """
-    source = encoded(text, "text", TagError)
+    try:
+        source = encoded(text, "text", SemverError)
+    except SemverError:
+        return False
     return CALLS["may_be_tag"](source, len(source)) == YES
 
 

@@ -168,6 +168,7 @@ class Errors(unittest.TestCase):
     def test_surrogates(self):
         self.assertRaises(semver.InvalidVersion, Version, "1.0.0-\ud800")
         self.assertRaises(semver.InvalidRange, Range, "\udcff")
+        self.assertFalse(semver.may_be_tag("latest\ud800"))
         with self.assertRaises(semver.InvalidVersion) as caught:
             semver.filter("1", ["1.0.0", "é\ud800"])
         self.assertEqual((caught.exception.index, caught.exception.start, caught.exception.end), (1, 1, 2))
