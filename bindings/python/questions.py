@@ -246,6 +246,14 @@ def of_values(name, texts, options, again):
     return None
 
 
+def of_itself(name, texts, options):
+    """The answer of one value about itself, where both texts are the same."""
+    if len(texts) != 2 or texts[0] != texts[1]:
+        return None
+    made = {}
+    return of_values(name, texts, options, lambda it: made.setdefault(type(it), it))
+
+
 def answer(ask, *arguments):
     try:
         return ask(*arguments)
@@ -260,18 +268,21 @@ def answer(ask, *arguments):
 WAYS = (
     ("of texts", of_texts),
     ("of values", lambda *asked: of_values(*asked, lambda it: it)),
+    ("of itself", of_itself),
     ("of copies", lambda *asked: of_values(*asked, copy.copy)),
     ("of pickles", lambda *asked: of_values(*asked, lambda it: pickle.loads(pickle.dumps(it)))),
 )
 
 
-def is_same(name, got, wanted):
+def is_same(name, way, got, wanted):
     if not got[0].startswith("invalid"):
         # What is behind the JSON of a package is for other languages.
         return got == (wanted[:2] if name == "package" else wanted)
-    # A value knows no place among arguments.
     code, message, index = got
-    return wanted[:2] == [code, message] and (index is None or wanted[2:] == [str(index)])
+    # A value knows no place among arguments, and a range that is the only one has none.
+    is_placed = way == "of texts" and not (name in ("best", "lowest") and code == "invalid range")
+    places = wanted[2:] if is_placed else []
+    return wanted[:2] == [code, message] and places == ([] if index is None else [str(index)])
 
 
 def each_is_right(question, wanted):
@@ -286,7 +297,7 @@ def each_is_right(question, wanted):
         got = answer(ask, name, fields[count:], options)
         if got is None:
             continue
-        right.append(is_same(name, got, wanted))
+        right.append(is_same(name, way, got, wanted))
         if not right[-1]:
             print(f"{question} {way}: {got}, and not {wanted}")
     return right

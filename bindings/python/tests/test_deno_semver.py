@@ -8,12 +8,15 @@ import gc
 import inspect
 import os
 import pickle
+import re
 import sys
 import threading
 import unittest
+from pathlib import Path
+from unittest import mock
 
 import deno_semver as semver
-from deno_semver import Range, Version, _errors, _functions, _values
+from deno_semver import Range, Version, _calls, _errors, _functions, _values
 
 heap = ctypes.CDLL(os.environ["DENO_SEMVER_LIBRARY"])
 
@@ -38,6 +41,7 @@ class Values(unittest.TestCase):
         self.assertEqual(sorted(reversed(versions)), versions)
         self.assertEqual(semver.sort(reversed(texts)), texts)
         self.assertEqual(semver.sort(versions, reverse=True), versions[::-1])
+        self.assertEqual(semver.sort(["1.0.0+b", "2.0.0", "1.0.0+a"], reverse=True), ["2.0.0", "1.0.0+b", "1.0.0+a"])
         self.assertLess(Version("1.0.0+a"), Version("1.0.0+b"))
         self.assertFalse(Version("1.0.0+a").precedes(Version("1.0.0+b")))
         self.assertEqual({Version("1.0.0"), Version("v1.0.0")}, {Version("1.0.0")})
@@ -93,11 +97,15 @@ class Errors(unittest.TestCase):
             semver.sort(["1.0.0", "1.x", "2.0.0"], reverse=True)
         self.assertEqual((caught.exception.text, caught.exception.index), ("1.x", 1))
         with self.assertRaises(semver.InvalidVersion) as caught:
+            semver.sort(["1.x", "1.0.0", "2.0.0"], reverse=True)
+        self.assertEqual((caught.exception.text, caught.exception.index), ("1.x", 0))
+        with self.assertRaises(semver.InvalidVersion) as caught:
             semver.filter("1", ["1.0.0", "1.x"])
         self.assertEqual(caught.exception.index, 1)
         with self.assertRaises(semver.InvalidRange) as caught:
             semver.common("1", "2", "3 4 <")
-        self.assertEqual(caught.exception.index, 2)
+        for error in (caught.exception, pickle.loads(pickle.dumps(caught.exception)), copy.copy(caught.exception)):
+            self.assertEqual((error.index, str(error)), (2, "'3 4 <' (item 2): Unexpected character. (at index 5)"))
         with self.assertRaises(semver.InvalidPackage) as caught:
             semver.parse_package("@a")
         self.assertEqual((caught.exception.start, caught.exception.end, caught.exception.expected), (2, 2, ("/",)))
@@ -178,6 +186,10 @@ class Errors(unittest.TestCase):
         self.assertRaises(ValueError, semver.matches, Range("1", "strict"), "1.0.0", grammar="npm")
         self.assertRaises(ValueError, semver.common, Range("1", "strict"), Range("1"))
         self.assertFalse(semver.matches("1 || 2", "3.0.0", grammar="normalized"))
+        # The grammar of one of two ranges is that of the other, too.
+        for ranges in ((Range("1", "strict"), ""), ("", Range("1", "strict"))):
+            self.assertRaises(semver.InvalidRange, semver.overlaps, *ranges)
+            self.assertRaises(ValueError, semver.overlaps, *ranges, grammar="npm")
 
 
 class Arguments(unittest.TestCase):
@@ -206,6 +218,8 @@ class Arguments(unittest.TestCase):
             self.assertRaises(TypeError, Version("1.0.0").precedes, wrong)
             self.assertRaises(TypeError, Range, "1", wrong)
         self.assertRaises(TypeError, semver.common)
+        with self.assertRaisesRegex(TypeError, r"^ranges\[1\] must be str, not int$"):
+            semver.common("1", 2)
 
 
 class Lifetimes(unittest.TestCase):
@@ -250,8 +264,8 @@ class Lifetimes(unittest.TestCase):
 
     def test_long_texts(self):
         text = "1.2.3-" + "a" * 100_000
-        self.assertEqual(str(Version(text)), text)
-        self.assertEqual(Range(text).canonical, text)
+        self.assertEqual(str(Version(f" v{text} ")), text)
+        self.assertEqual(Range(f" ={text} ").canonical, text)
 
     def test_out_of_memory(self):
         version, range_ = Version("1.3.0"), Range("^1")
@@ -299,6 +313,24 @@ class Lifetimes(unittest.TestCase):
         for thread in threads:
             thread.join()
         self.assertEqual(wrong, [])
+
+
+class Releases(unittest.TestCase):
+    def test_api(self):
+        for api in (_calls.API - 1, _calls.API + 1):
+            with mock.patch.object(_calls, "API", api), self.assertRaises(ImportError):
+                _calls._check_api()
+
+    def test_version(self):
+        top = Path(__file__).resolve().parents[3]
+        for path, pattern in (
+            ("Makefile", r"^VERSION := (.+)$"),
+            ("bindings/c/semver.h", r'^#define SEMVER_VERSION "(.+)"$'),
+            ("bindings/rust/Cargo.toml", r'^version = "(.+)"$'),
+            ("bindings/js/package.json", r'^  "version": "(.+)",$'),
+        ):
+            with self.subTest(path=path):
+                self.assertEqual(re.findall(pattern, (top / path).read_text(), re.MULTILINE), [semver.__version__])
 
 
 if __name__ == "__main__":
