@@ -98,3 +98,27 @@ impl<H> Held<H> {
         }
     }
 }
+
+#[cfg(test)]
+mod tests {
+    use super::Held;
+    use std::cell::RefCell;
+    use std::thread;
+
+    // In which order a thread that made neither of two values locks them, if it asks the one with this number about the other.
+    fn locked(one: usize) -> Vec<usize> {
+        let (values, other) = ([Held::new(()), Held::new(())], 1 - one);
+        let ask = || {
+            let order = RefCell::new(Vec::new());
+            let parse = |number| order.borrow_mut().push(number);
+            values[one].ask_two(|| parse(one), &values[other], || parse(other), |_, _| ());
+            order.into_inner()
+        };
+        thread::scope(|scope| scope.spawn(ask).join().unwrap())
+    }
+
+    #[test]
+    fn two_values_are_locked_in_one_order() {
+        assert_eq!([locked(0), locked(1)], [[0, 1], [0, 1]]);
+    }
+}

@@ -183,6 +183,7 @@ fn references() {
     assert_eq!((reference.to_string(), &*reference.req().name), ("jsr:@scope/name@^1/mod.ts".into(), "@scope/name"));
     let not_npm = NpmPackageReqReference::from_specifier(&"jsr:a").unwrap_err();
     assert_eq!(not_npm, PackageReqReferenceParseError::NotExpectedScheme(PackageKind::Npm));
+    assert_eq!(chain(&not_npm), ["Not npm: specifier"]);
     let PackageReqReferenceParseError::InvalidPathWithVersion(error) =
         JsrPackageReqReference::from_str("jsr:@a/b/c@1").unwrap_err()
     else {
@@ -191,7 +192,9 @@ fn references() {
     assert_eq!((error.current.as_str(), error.suggested.as_str()), ("@a/b/c@1", "@a/b@1/c"));
     let pinned = NpmPackageNvReference::from_str("npm:name@1.2.3/path").unwrap();
     assert_eq!((pinned.to_string(), pinned.nv().to_string()), ("npm:name@1.2.3/path".into(), "name@1.2.3".into()));
-    assert_eq!(JsrPackageNvReference::from_str("npm:name@1.2.3").unwrap_err().message, "Unexpected character.");
+    let not_jsr = JsrPackageNvReference::from_str("npm:name@1.2.3").unwrap_err();
+    assert_eq!(not_jsr.message, "Unexpected character.");
+    assert_eq!(chain(&not_jsr), ["Invalid package name and version reference 'npm:name@1.2.3'. Unexpected character."]);
 }
 
 // The parts as the library's JSON has them.
@@ -344,6 +347,17 @@ fn ranges() {
     assert_eq!(VersionRangeSet(Vec::new()).to_string(), "<0.0.0");
     let req = VersionReq::from_raw_text_and_inner("mine".into(), RangeSetOrTag::RangeSet(VersionRangeSet(vec![caret])));
     assert_eq!((req == npm("^1.2.3"), req.to_string()), (true, "mine".to_string()));
+    // Builds are part of the canonical form, so bounds that differ in one aren't shortened.
+    use VersionBoundKind::{Exclusive, Inclusive};
+    for (kind, end, canonical) in [
+        (Inclusive, "1.0.0", "1.0.0"),
+        (Inclusive, "1.0.0+b", ">=1.0.0 <=1.0.0+b"),
+        (Exclusive, "2.0.0", "1"),
+        (Exclusive, "2.0.0+b", ">=1.0.0 <2.0.0+b"),
+        (Exclusive, "2.0.0-b", ">=1.0.0 <2.0.0-b"),
+    ] {
+        assert_eq!(from("1.0.0", kind, end).to_string(), canonical);
+    }
 }
 
 #[test]
@@ -371,7 +385,8 @@ fn strings() {
         assert_eq!(string, format!("{text}é"));
     }
     let map = HashMap::from([(StackString::from("key"), 1)]);
-    assert_eq!((map.get("key"), StackString::from("a.b").replace(".", "")), (Some(&1), "ab".into()));
+    assert_eq!((map.get("key"), StackString::from("a.b.c").replace(".", "")), (Some(&1), "abc".into()));
+    assert_eq!(StackString::from("é.").replace("", "-"), "-é-.-");
     assert_eq!(size_of::<StackString>(), 24);
 }
 

@@ -4,7 +4,7 @@
 use deno_semver_proved::jsr::{JsrDepPackageReq, JsrPackageNvReference};
 use deno_semver_proved::npm::NpmPackageNvReference;
 use deno_semver_proved::package::{PackageNv, PackageReq};
-use deno_semver_proved::{RangeSetOrTag, StackString, Version, VersionRange, VersionRangeSet, VersionReq};
+use deno_semver_proved::{RangeBound, RangeSetOrTag, StackString, Version, VersionRange, VersionRangeSet, VersionReq};
 use serde::de::DeserializeOwned;
 use serde::Serialize;
 use serde_json::{from_str, to_string};
@@ -42,4 +42,8 @@ fn errors() {
     let error = from_str::<PackageReq>(r#""a@!""#).unwrap_err().to_string();
     assert!(error.starts_with("Invalid package requirement 'a@!': Invalid normalized version requirement: Unexpected character."));
     assert!(from_str::<VersionReq>(r#"{"raw_text":"1"}"#).is_err());
+    let twice = r#"{"start":"Unbounded","start":"Unbounded","end":"Unbounded"}"#;
+    assert!(from_str::<VersionRange>(twice).unwrap_err().to_string().starts_with("duplicate field `start`"));
+    let two_keys = r#"{"Version":{"kind":"Inclusive","version":"1.2.3"},"other":1}"#;
+    assert!(from_str::<RangeBound>(two_keys).unwrap_err().to_string().starts_with("a bound has one key"));
 }
