@@ -287,6 +287,12 @@ static void version_error(const text *t) {
     check_match(code, place);
 }
 
+/* The first text says what the other is: a package or a reference. */
+static void why(const text *t) {
+    uint32_t what = is(t[0], "package") ? SEMVER_PACKAGE : SEMVER_REFERENCE;
+    check_text(semver_why(what, grammar, BYTES(t[1]), OUT));
+}
+
 /* If there is room for two numbers alone, none is written. */
 static void version_numbers(const text *t) {
     uint64_t numbers[NUMBERS], few[] = {99, 99};
@@ -383,6 +389,7 @@ static const struct call {
     {"reference", 0, .text = semver_reference},
     {"package_errors", 1, .req = semver_package_errors},
     {"reference_errors", 0, .text = semver_reference_errors},
+    {"why", 1, .ask = why},
     {"version_parts", 0, .text = semver_version_parts},
     {"ranges", 1, .req = semver_ranges},
     {"explain", 2, .ask = explain},
@@ -451,6 +458,9 @@ static void ask_with_each_limit(const struct call *c, const text *t) {
     }
 }
 
+/* Every number but 0 admits pre-releases. */
+static const uint32_t ADMITTING[] = {SEMVER_ADMITTED, 2, UINT32_MAX};
+
 static void ask_row(void) {
     text fields[FIELDS + 1], rest;
     const struct call *c = CALLS, *end = CALLS + sizeof CALLS / sizeof *CALLS;
@@ -462,9 +472,14 @@ static void ask_row(void) {
              : is(fields[1], "normalized") ? SEMVER_NORMALIZED
              : is(fields[1], "strict")     ? SEMVER_STRICT
                                            : 3;
-    pre_releases = is(fields[2], "admitted") ? SEMVER_ADMITTED : SEMVER_RESTRICTED;
-    if (c < end) ask_with_each_limit(c, fields + 1 + c->options);
-    else check(99, FIT, NULL, 0);
+    pre_releases = SEMVER_RESTRICTED;
+    if (c == end) check(99, FIT, NULL, 0);
+    else if (!is(fields[2], "admitted")) ask_with_each_limit(c, fields + 1 + c->options);
+    else
+        for (size_t n = 0; n < sizeof ADMITTING / sizeof *ADMITTING; n++) {
+            pre_releases = ADMITTING[n];
+            ask_with_each_limit(c, fields + 1 + c->options);
+        }
 }
 
 int main(int count, char **arguments) {

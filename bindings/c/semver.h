@@ -45,7 +45,7 @@ enum {
 /* kinds of text, of which semver_why asks */
 enum { SEMVER_PACKAGE = 0, SEMVER_REFERENCE = 1 };
 
-/* pre-releases: by npm's rule, or every one between the bounds */
+/* pre-releases: by npm's rule, or every one between the bounds, which any other number means, too */
 enum { SEMVER_RESTRICTED = 0, SEMVER_ADMITTED = 1 };
 
 /* codes */
