@@ -1,5 +1,6 @@
 """The time of 100,000 versions from Python. DENO_SEMVER_LIBRARY is the shared library."""
 
+import functools
 import time
 
 import deno_semver as semver
@@ -28,6 +29,12 @@ def main():
         assert found == again == last == [str(version) for version in values]
         print(f"{text}: filter {once:.0f} ms, Range.matches {of_texts:.0f} ms, of a Version {of_values:.0f} ms, matches {each:.0f} ms")
     print(f"sort {fastest(lambda: semver.sort(TEXTS), 5)[0]:.0f} ms, Version {fastest(lambda: [semver.Version(text) for text in TEXTS], 1)[0]:.0f} ms")
+    # `precedes` makes a call for each comparison, and `<` where two versions have the same numbers.
+    by_call = functools.cmp_to_key(lambda one, other: -one.precedes(other))
+    called, ordered = fastest(lambda: sorted(versions, key=by_call), 3)
+    numbered, again = fastest(lambda: sorted(versions), 3)
+    assert ordered == again
+    print(f"sorted, of Versions: {numbered:.0f} ms, by calls alone {called:.0f} ms")
 
 
 main()

@@ -61,10 +61,11 @@ class Version:
     Versions that differ only in the build are different, and ordered by it. `precedes` ignores builds, as SemVer does.
     """
 
-    __slots__ = ("_held", "_text", "__weakref__")
+    __slots__ = ("_held", "_text", "_numbers", "__weakref__")
 
     _held: _Held
     _text: str
+    _numbers: Tuple[int, ...]
 
     def __new__(cls, text: str) -> Version:
         source = encoded(text, "text", InvalidVersion)
@@ -74,6 +75,7 @@ class Version:
         self = super().__new__(cls)
         self._held = _Held(handle, CALLS["version_free"])
         self._text = written or read("version", source, len(source))[1]
+        self._numbers = ()
         return self
 
     def _part(self, number: int) -> str:
@@ -119,10 +121,18 @@ class Version:
     def __hash__(self) -> int:
         return hash(self._text)
 
+    def _keep_numbers(self) -> Tuple[int, ...]:
+        """Keeps the three numbers for the next comparison, and returns them."""
+        self._numbers = tuple(map(int, self._text.partition("+")[0].partition("-")[0].split(".")))
+        return self._numbers
+
     def __lt__(self, other: object) -> bool:
         if not isinstance(other, Version):
             return NotImplemented
-        return self is not other and CALLS["version_order"](self._held.lent(), other._held.lent()) == 0
+        one, two = self._numbers or self._keep_numbers(), other._numbers or other._keep_numbers()
+        if one != two:
+            return one < two
+        return self._text != other._text and CALLS["version_order"](self._held.lent(), other._held.lent()) == 0
 
     def __reduce__(self) -> Tuple[Any, ...]:
         return Version, (self._text,)

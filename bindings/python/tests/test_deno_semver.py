@@ -6,6 +6,7 @@ import ctypes
 import doctest
 import gc
 import inspect
+import itertools
 import os
 import pickle
 import re
@@ -48,6 +49,54 @@ class Values(unittest.TestCase):
         self.assertNotEqual(Version("1.0.0"), "1.0.0")
         with self.assertRaises(TypeError):
             Version("1.0.0") < "1.0.1"
+
+    def test_each_comparison(self):
+        # In order: by numbers; pre-releases before their release; their numbers below 2**64 before texts; and builds of one precedence.
+        precedences = [
+            ["0.0.0-0"],
+            ["0.0.0"],
+            ["0.0.1-a", "0.0.1-a+1.1.1-1"],
+            ["0.9.9"],
+            ["0.10.0-18446744073709551615"],
+            ["0.10.0--"],
+            ["0.10.0-18446744073709551616"],
+            ["0.10.0", "0.10.0+1-2.3", "0.10.0+10", "0.10.0+9", "0.10.0+a", "0.10.0+a.b", "0.10.0+ab"],
+            ["0.10.10"],
+            ["1.0.0-9"],
+            ["1.0.0-10", "1.0.0-10+10"],
+            ["1.0.0-A"],
+            ["1.0.0-a"],
+            ["1.0.0-a.1"],
+            ["1.0.0-a-"],
+            ["1.0.0"],
+            ["2.0.0"],
+            ["10.0.0"],
+            ["9223372036854775807.0.0"],
+            ["9223372036854775808.0.0-a"],
+            ["9223372036854775808.0.0", "9223372036854775808.0.0+a"],
+            ["9223372036854775808.0.9223372036854775808"],
+            ["18446744073709551614.18446744073709551615.18446744073709551615"],
+            ["18446744073709551615.0.18446744073709551614"],
+            ["18446744073709551615.0.18446744073709551615"],
+        ]
+        ranked = [(text, rank) for rank, texts in enumerate(precedences) for text in texts]
+        versions = [Version(text) for text, _ in ranked]
+        for (one, first), (other, second) in itertools.product(enumerate(ranked), repeat=2):
+            # Of other values as well, which no comparison has met.
+            for left, right in ((versions[one], versions[other]), (Version(first[0]), Version(f" v{second[0]} "))):
+                with self.subTest(one=left, other=right):
+                    got = (left < right, left <= right, left > right, left >= right, left == right, left != right)
+                    self.assertEqual(got, (one < other, one <= other, one > other, one >= other, one == other, one != other))
+                    precedence = (first[1] > second[1]) - (first[1] < second[1])
+                    self.assertEqual((semver.compare(left, right), left.precedes(right)), (precedence, precedence < 0))
+        self.assertEqual(sorted(reversed(versions)), versions)
+        self.assertEqual((max(versions), min(versions)), (versions[-1], versions[0]))
+
+    def test_numbers_are_ordered_without_a_call(self):
+        texts = ["0.9.0", "0.10.0-a", "1.0.0", "1.0.0", "1.0.1+b", "2.0.0"]
+        with mock.patch.dict(_calls.CALLS, version_order=None):
+            self.assertEqual([str(version) for version in sorted(map(Version, reversed(texts)))], texts)
+            self.assertRaises(TypeError, lambda: Version("1.0.0-a") < Version("1.0.0"))
 
     def test_ranges(self):
         self.assertEqual(Range("^1.2"), Range(">=1.2 <2"))
