@@ -138,7 +138,9 @@ fn places_in_packages() {
     assert_eq!(span(source("@a/é@^1..2")), Some((3, 5)));
     let error = source("@a/b@1/c");
     assert_eq!((error.code_snippet.as_deref(), span(error.clone())), (Some("/c"), None));
-    let whole = |text| PackageReq::from_str_loose(text).unwrap_err().place().map(|place| (place.start, place.end, place.expected.join(" ")));
+    let whole = |text| {
+        PackageReq::from_str_loose(text).unwrap_err().place().map(|place| (place.start, place.end, place.expected.join(" ")))
+    };
     for (text, start, expected) in [("", 0, "name"), ("@a", 2, "/"), ("@a/", 3, "name"), ("a/b", 0, "@"), ("@a/b@1/c", 6, "")] {
         assert_eq!(whole(text), Some((start, text.len(), expected.to_string())), "{text}");
     }
