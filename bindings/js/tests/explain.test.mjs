@@ -67,9 +67,9 @@ function mistakesOf(text, { grammar }) {
 }
 
 let [meanings, mistakes] = [0, 0];
-for (const { arguments: given, stdout = '', stderr = '' } of table.trim().split('\n').map((line) => JSON.parse(line))) {
+for (const { arguments: given, stdout = '', stderr = '', tty } of table.trim().split('\n').map((line) => JSON.parse(line))) {
   const question = asked(given);
-  if (!question) continue;
+  if (!question || tty) continue; // a terminal gets colours
   const carets = caretsOf(`${stdout}\n${stderr}`);
   if (stdout) {
     meanings++;
