@@ -47,6 +47,7 @@ try:
 	@cd crates/npmver && rt try -- fits npm '>=1.2 <2 || 3' 1.3.0
 
 test:
+	@packaging/tools.sh --tests
 	bash .ci/run
 
 # rt proves a program and the crates below it, in silence for minutes at a time, before it builds and runs it.

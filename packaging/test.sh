@@ -161,7 +161,7 @@ try_questions() { # COMMAND..
 packaging/generate.py --check
 install_and_remove
 if ! why=$(packaging/tools.sh --static "${CC:-cc}" git dpkg-deb 2>&1); then
-    echo "packaging: no release is tried, since $why"
+    echo "packaging: no release is tried; $why"
     exit
 fi
 arches=x86_64 static=yes
