@@ -17,18 +17,20 @@ HERE = pathlib.Path(__file__).resolve().parent
 PACKAGE = HERE / "deno_semver"
 NAME, TAG = "deno_semver", "py3-none-manylinux2014_x86_64"
 VERSION = re.search(r'__version__ = "(.*)"', (PACKAGE / "__init__.py").read_text()).group(1)
+LICENSES = [HERE.parents[1] / name for name in ("LICENSE", "packaging/THIRD-PARTY")]
 OLDEST = (2, 17)
 SHARED = {"libc.so.6"}
 
-METADATA = f"""Metadata-Version: 2.1
+METADATA = f"""Metadata-Version: 2.4
 Name: deno-semver
 Version: {VERSION}
 Summary: Versions and version ranges of npm and JSR packages, as Deno reads them, over verified code
-License: MIT
+License-Expression: MIT AND Unicode-3.0
+License-File: LICENSE
+License-File: THIRD-PARTY
 Keywords: semver,version,range,npm,jsr,deno
 Requires-Python: >=3.8
 Classifier: Development Status :: 4 - Beta
-Classifier: License :: OSI Approved :: MIT License
 Classifier: Operating System :: POSIX :: Linux
 Classifier: Programming Language :: Python :: 3
 Classifier: Typing :: Typed
@@ -64,7 +66,8 @@ def files_of(library):
     files = {f"{NAME}/{path.name}": path.read_bytes() for path in sources}
     files[f"{NAME}/libdeno_semver.so.0"] = library.read_bytes()
     files[f"{info}/METADATA"] = METADATA.encode() + (HERE / "README.md").read_bytes()
-    files[f"{info}/LICENSE"] = (HERE.parents[1] / "LICENSE").read_bytes()
+    for path in LICENSES:
+        files[f"{info}/licenses/{path.name}"] = path.read_bytes()
     files[f"{info}/WHEEL"] = WHEEL.encode()
     record = "".join(f"{name},{digest(data)},{len(data)}\n" for name, data in files.items())
     files[f"{info}/RECORD"] = f"{record}{info}/RECORD,,\n".encode()
