@@ -1,10 +1,23 @@
-"""Makes the npm package, which has the sources, the module as base64, the same as CommonJS, and types for both; and the page."""
+#!/usr/bin/env python3
+"""Makes the npm package, which has the sources, the module as base64, the same as CommonJS, and types for both; and the page.
+
+    bindings/js/package.py
+
+It makes them of the semver.wasm that build.py left. Where that is absent, or older than a source of it, nothing is made, and the status
+is 1."""
 import base64
 import pathlib
 import re
 import shutil
+import sys
 
 HERE = pathlib.Path(__file__).resolve().parent
+TOP = HERE.parents[1]
+sys.path.insert(0, str(HERE.parent))
+sys.dont_write_bytecode = True
+import library
+
+WASM = HERE / "out/semver.wasm"
 FOLDER = HERE / "out/package"
 PAGE = HERE / "out/page/index.html"
 ENTRANCES = ("index", "compat")
@@ -73,9 +86,31 @@ def make(wasm):
         types = (HERE / f"src/{name}.d.ts").read_text()
         (FOLDER / f"{name}.d.ts").write_text(types)
         (FOLDER / f"{name}.d.cts").write_text(types.replace(".js'", ".cjs'"))
-    top = HERE.parents[1]
-    for path in (HERE / "package.json", top / "LICENSE"):
+    for path in (HERE / "package.json", TOP / "LICENSE", TOP / "packaging/THIRD-PARTY"):
         shutil.copy(path, FOLDER)
-    for path in (HERE / "README.md", top / "docs/NODE_SEMVER.md"):
+    for path in (HERE / "README.md", TOP / "docs/NODE_SEMVER.md"):
         (FOLDER / path.name).write_text(without_links(path.read_text()))
     make_page(sources)
+
+
+def why_stale():
+    """Why semver.wasm isn't what build.py would build of the sources as they are, or None."""
+    if not WASM.exists():
+        return "bindings/js/build.py has built no semver.wasm"
+    built = WASM.stat().st_mtime
+    crate = library.find("semver_c")
+    changed = {it.folder: library.changed(it.folder) for it in [*crate.below(), crate]}
+    for path in (HERE / "build.py", HERE.parent / "c/semver.h", *(HERE / "wasm").rglob("*.[ch]")):
+        changed[path] = path.stat().st_mtime
+    newer = [str(path.relative_to(TOP)) for path, time in changed.items() if time > built]
+    return f"{', '.join(newer)} changed after bindings/js/build.py built semver.wasm" if newer else None
+
+
+def main():
+    if why := why_stale():
+        sys.exit(why)
+    make(WASM)
+
+
+if __name__ == "__main__":
+    main()
