@@ -1,6 +1,7 @@
 # Builds, tests and installs the programs and the C library. `make help` lists the targets.
 
 PREFIX = /usr/local
+LIBDIR = $(PREFIX)/lib
 DESTDIR =
 CC = cc
 AR = ar
@@ -23,7 +24,7 @@ PROGRAMS := crates/ranges/out/ranges crates/npmver/out/npmver
 STRIPPED := out/ranges out/npmver
 LIBRARIES = $(OUT)/$(SONAME) $(OUT)/libdeno_semver.a $(OUT)/deno_semver.pc
 
-.PHONY: all libraries x86_64 aarch64 try test dist install uninstall help clean tools
+.PHONY: all libraries x86_64 aarch64 try test dist install uninstall version help clean tools
 
 all: tools $(STRIPPED) libraries
 
@@ -34,8 +35,9 @@ help:
 	@echo 'make try        one answer within a minute, without the proof'
 	@echo 'make test       the whole gate: every proof and every test'
 	@echo 'make dist       a release in out/dist: tarballs, a Debian package, a wheel, a crate, an npm package, checksums'
-	@echo 'make install    install below PREFIX (/usr/local), within DESTDIR if it is set'
+	@echo 'make install    install below PREFIX (/usr/local), the libraries in LIBDIR (PREFIX/lib), within DESTDIR if it is set'
 	@echo 'make uninstall  remove what make install put there'
+	@echo 'make version    print the version'
 	@echo 'make clean      remove what make put into out/'
 
 tools:
@@ -105,12 +107,15 @@ dist:
 	@VERSION='$(VERSION)' ARCHES='$(ARCHES)' GATE='$(GATE)' STATIC='$(STATIC)' DIST='$(DIST)' CC='$(CC)' AR='$(AR)' packaging/dist.sh
 
 install:
-	@PREFIX='$(PREFIX)' DESTDIR='$(DESTDIR)' packaging/install.sh --check
+	@PREFIX='$(PREFIX)' LIBDIR='$(LIBDIR)' DESTDIR='$(DESTDIR)' packaging/install.sh --check
 	@$(MAKE) --no-print-directory all
-	@PREFIX='$(PREFIX)' DESTDIR='$(DESTDIR)' packaging/install.sh
+	@VERSION='$(VERSION)' PREFIX='$(PREFIX)' LIBDIR='$(LIBDIR)' DESTDIR='$(DESTDIR)' packaging/install.sh
 
 uninstall:
-	@PREFIX='$(PREFIX)' DESTDIR='$(DESTDIR)' packaging/install.sh --remove
+	@PREFIX='$(PREFIX)' LIBDIR='$(LIBDIR)' DESTDIR='$(DESTDIR)' packaging/install.sh --remove
+
+version:
+	@echo '$(VERSION)'
 
 clean:
 	rm -rf out

@@ -1,30 +1,37 @@
 #!/bin/sh
-# Installs what was built in the folder FROM, by default out, below PREFIX, within DESTDIR. With --check it only says whether that can
-# be done, and with --remove it removes what it installed. Run at the top, by the Makefile and by dist.sh.
+# Installs what was built in the folder FROM, by default out, below PREFIX, and the libraries in LIBDIR, within DESTDIR. With --check it
+# only says whether that can be done, and with --remove it removes what it installed. VERSION is stated at the foot of the manual pages.
+# Run at the top, by the Makefile and by dist.sh.
 set -e
+umask 022
 from=${FROM:-out}
-case $PREFIX in
-    *[\"\'\`\$\|\&\\[:space:]]*) echo "PREFIX may have no whitespace and none of \"'\`\$|&\\, for pkg-config's sake" >&2; exit 2 ;;
-    /*) ;;
-    *) echo "PREFIX must be an absolute path, and isn't: '$PREFIX'" >&2; exit 2 ;;
-esac
-top=$DESTDIR$PREFIX
+LIBDIR=${LIBDIR:-${PREFIX%/}/lib}
+
+check_path() { # NAME PATH
+    case $2 in
+        *[\"\'\`\$\|\&\\[:space:]]*) echo "$1 may have no whitespace and none of \"'\`\$|&\\, for pkg-config's sake" >&2; exit 2 ;;
+        /*) ;;
+        *) echo "$1 must be an absolute path, and isn't: '$2'" >&2; exit 2 ;;
+    esac
+}
 
 # For each file: its mode, what make built or the project has, and where it is installed.
 files() {
+    share=$PREFIX/share
     cat <<END
-755 $from/ranges bin/ranges
-755 $from/npmver bin/npmver
-755 $from/libdeno_semver.so.0 lib/libdeno_semver.so.0
-644 $from/libdeno_semver.a lib/libdeno_semver.a
-644 $from/deno_semver.pc lib/pkgconfig/deno_semver.pc
-644 bindings/c/semver.h include/semver.h
-644 packaging/man/ranges.1 share/man/man1/ranges.1
-644 packaging/man/npmver.1 share/man/man1/npmver.1
-644 packaging/completions/ranges.bash share/bash-completion/completions/ranges
-644 packaging/completions/_ranges share/zsh/site-functions/_ranges
-644 packaging/completions/ranges.fish share/fish/vendor_completions.d/ranges.fish
-644 LICENSE share/doc/deno-semver/copyright
+755 $from/ranges $PREFIX/bin/ranges
+755 $from/npmver $PREFIX/bin/npmver
+644 $from/libdeno_semver.so.0 $LIBDIR/libdeno_semver.so.0
+644 $from/libdeno_semver.a $LIBDIR/libdeno_semver.a
+644 $from/deno_semver.pc $LIBDIR/pkgconfig/deno_semver.pc
+644 bindings/c/semver.h $PREFIX/include/semver.h
+644 packaging/man/ranges.1 $share/man/man1/ranges.1
+644 packaging/man/npmver.1 $share/man/man1/npmver.1
+644 packaging/completions/ranges.bash $share/bash-completion/completions/ranges
+644 packaging/completions/_ranges $share/zsh/site-functions/_ranges
+644 packaging/completions/ranges.fish $share/fish/vendor_completions.d/ranges.fish
+644 LICENSE $share/doc/deno-semver/LICENSE
+644 packaging/THIRD-PARTY $share/doc/deno-semver/THIRD-PARTY
 END
 }
 
@@ -38,29 +45,38 @@ writable() {
 # Nothing is installed if one of the files can't be.
 check() {
     files | while read -r _ _ target; do
-        folder=$top/$(dirname "$target")
+        folder=$DESTDIR$(dirname "$target")
         writable "$folder" || { echo "$folder can't be written" >&2; exit 1; }
-        [ ! -d "$top/$target" ] || { echo "$top/$target is a folder, and a file is to be installed there" >&2; exit 1; }
+        [ ! -d "$DESTDIR$target" ] || { echo "$DESTDIR$target is a folder, and a file is to be installed there" >&2; exit 1; }
     done
 }
 
 remove() {
-    files | while read -r _ _ target; do rm -f "$top/$target"; done
-    rm -f "$top/lib/libdeno_semver.so"
-    rmdir "$top/share/doc/deno-semver" 2>/dev/null || true
+    files | while read -r _ _ target; do rm -f "$DESTDIR$target"; done
+    rm -f "$DESTDIR$LIBDIR/libdeno_semver.so"
+    rmdir "$DESTDIR$PREFIX/share/doc/deno-semver" 2>/dev/null || true
 }
 
 copy() {
     files | while read -r _ source _; do [ -f "$source" ] || { echo "$source isn't built: run make" >&2; exit 1; }; done
     files | while read -r mode source target; do
-        mkdir -p "$top/$(dirname "$target")"
-        install -m "$mode" "$source" "$top/$target"
+        mkdir -p "$DESTDIR$(dirname "$target")"
+        install -m "$mode" "$source" "$DESTDIR$target"
     done
-    ln -sf libdeno_semver.so.0 "$top/lib/libdeno_semver.so"
-    sed -i "s|@PREFIX@|$PREFIX|" "$top/lib/pkgconfig/deno_semver.pc"
-    echo "Installed ranges, npmver and libdeno_semver below $top"
+    ln -sf libdeno_semver.so.0 "$DESTDIR$LIBDIR/libdeno_semver.so"
+    case $LIBDIR in
+        "${PREFIX%/}"/*) libdir="\${prefix}${LIBDIR#"${PREFIX%/}"}" ;;
+        *) libdir=$LIBDIR ;;
+    esac
+    sed -i -e "s|@PREFIX@|$PREFIX|" -e "s|@LIBDIR@|$libdir|" "$DESTDIR$LIBDIR/pkgconfig/deno_semver.pc"
+    for page in ranges npmver; do
+        sed -i "1s|^\.TH [A-Z]* 1\$|& \"\" \"deno_semver ${VERSION:?}\"|" "$DESTDIR$PREFIX/share/man/man1/$page.1"
+    done
+    echo "Installed ranges, npmver and libdeno_semver below $DESTDIR$PREFIX"
 }
 
+check_path PREFIX "$PREFIX"
+check_path LIBDIR "$LIBDIR"
 case $1 in
     --check) check ;;
     --remove) remove ;;
