@@ -1,11 +1,12 @@
 #!/bin/sh
-# Writes a release into the folder DIST: for each processor of ARCHES a tarball with static programs and the C library, a Debian package,
-# SHA256SUMS, and RELEASE, which says what it was made of. The same commit and tools give the same bytes. Run by `make dist`, at the top;
-# with GATE empty the proofs and mutations aren't run before it, and with STATIC empty the programs aren't static; RELEASE says so.
+# Writes a release into the folder DIST: for each processor of ARCHES a tarball with static programs and the C library, and one with what
+# the programs are linked from; a Debian package, a wheel, a crate, the npm package and the page where they are built, SHA256SUMS, and
+# RELEASE, which says what it was made of. The same commit and tools give the same bytes. Run by `make dist`, at the top; with GATE empty
+# the proofs and mutations aren't run before it, and with STATIC empty the programs aren't static; RELEASE says so.
 set -e
 umask 022
-export LC_ALL=C
-: "${VERSION:?}" "${ARCHES:?}" "${DIST:?}"
+export LC_ALL=C VERSION="${VERSION:?}"
+: "${ARCHES:?}" "${DIST:?}"
 
 fail() {
     echo "$1" >&2
@@ -24,7 +25,8 @@ check() {
             *) fail "ARCHES may have x86_64 and aarch64, and not $arch" ;;
         esac
     done
-    packaging/tools.sh --static rt "${CC:-cc}" "${AR:-ar}" strip python3 git tar gzip dpkg-deb sha256sum $tools
+    packaging/tools.sh --static rt "${CC:-cc}" "${AR:-ar}" strip objdump python3 git tar gzip dpkg-deb sha256sum $tools
+    packaging/versions.py "$VERSION" || exit 1
     git rev-parse -q --verify HEAD >/dev/null 2>&1 || fail 'A release is made of a commit: run make dist in a clone of the repository'
     [ ! -e "$DIST" ] || [ -f "$DIST/SHA256SUMS" ] || fail "$DIST is there, and isn't a release: remove it first"
     above=$(dirname "$DIST")
@@ -34,6 +36,8 @@ check() {
 make_all() {
     if [ -n "$GATE" ]; then ${MAKE:-make} -s out/gate; fi
     ${MAKE:-make} -s all
+    said=$(out/ranges --version)
+    [ "$said" = "ranges $VERSION" ] || fail "ranges --version says $said, and the Makefile has the version $VERSION"
     for arch in $ARCHES; do
         if [ -n "$STATIC" ]; then ${MAKE:-make} -s "$arch"; fi
     done
@@ -70,58 +74,100 @@ link() { # ARCH
     ${MAKE:-make} -s OUT="out/$1" CC="$cc" AR="$ar" ARCHIVE="$calls" HEAP="$heap" libraries >/dev/null
 }
 
-same_times() { # FOLDER
-    find "$1" -exec touch -h -d "@$SOURCE_DATE_EPOCH" {} +
+# Packs a folder of $work as a tarball of this name; the times of its files are the commit's.
+pack() { # FOLDER NAME
+    find "$work/$1" -exec touch -h -d "@$SOURCE_DATE_EPOCH" {} +
+    tar -C "$work" --sort=name --owner=0 --group=0 --numeric-owner --mode=u=rwX,go=rX --format=gnu -cf "$work/$2.tar" "$1"
+    gzip -9n <"$work/$2.tar" >"$made/$2.tar.gz"
 }
 
 # The pkg-config file names its own place, so that a tarball works in any folder.
 tarball() { # ARCH
     name=deno_semver-$VERSION-$1-linux
-    FROM=out/$1 PREFIX=/ DESTDIR=$work/$name packaging/install.sh >/dev/null
+    FROM=out/$1 PREFIX=/ LIBDIR=/lib DESTDIR=$work/$name packaging/install.sh >/dev/null
     sed -i 's|^prefix=.*|prefix=${pcfiledir}/../..|' "$work/$name/lib/pkgconfig/deno_semver.pc"
     rm -r "$work/$name/share/doc"
-    cp LICENSE README.md "$work/$name"
-    same_times "$work/$name"
-    tar -C "$work" --sort=name --owner=0 --group=0 --numeric-owner --format=gnu -cf "$work/$name.tar" "$name"
-    gzip -9n <"$work/$name.tar" >"$made/$name.tar.gz"
+    cp LICENSE packaging/THIRD-PARTY README.md "$work/$name"
+    if [ -n "$STATIC" ]; then cp packaging/LGPL-2.1 "$work/$name"; fi
+    pack "$name" "$name"
 }
 
-# Debian has manual pages compressed, and completions of zsh in a folder of its own.
+# What the static programs are linked from, for those who change the GNU C library in them.
+objects() { # ARCH
+    name=deno_semver-$VERSION-$1-linux-objects
+    mkdir "$work/$name"
+    cp "out/$1/ranges.o" "out/$1/npmver.o" LICENSE packaging/THIRD-PARTY packaging/LGPL-2.1 "$work/$name"
+    cp "$system" "$work/$name/libsystem.a"
+    cp "$heap" "$work/$name/libheap.a"
+    pack "$name" "$name"
+}
+
+# Debian has libraries in a folder of their processor, manual pages compressed, completions of zsh in a folder of its own, and all
+# licences in one file.
 debian() {
     root=$work/debian share=$work/debian/usr/share
-    FROM=out/x86_64 PREFIX=/usr DESTDIR=$root packaging/install.sh >/dev/null
+    FROM=out/x86_64 PREFIX=/usr LIBDIR=/usr/lib/x86_64-linux-gnu DESTDIR=$root packaging/install.sh >/dev/null
     gzip -9n "$share"/man/man1/*.1
     mv "$share/zsh/site-functions" "$share/zsh/vendor-completions"
+    { cat LICENSE; echo; cat packaging/THIRD-PARTY; } >"$share/doc/deno-semver/copyright"
+    rm "$share/doc/deno-semver/LICENSE" "$share/doc/deno-semver/THIRD-PARTY"
+    {
+        echo "deno-semver ($VERSION-1) unstable; urgency=medium"
+        echo
+        echo "  * Release $VERSION."
+        echo
+        echo " -- $(sed -n 's/^Maintainer: //p' packaging/debian/control.in)  $(date -uR -d "@$SOURCE_DATE_EPOCH")"
+    } | gzip -9n >"$share/doc/deno-semver/changelog.Debian.gz"
     mkdir "$root/DEBIAN"
+    if [ -n "$STATIC" ]; then install -D -m 644 packaging/debian/overrides "$share/lintian/overrides/deno-semver"; fi
     size=$(find "$root/usr" -type f -printf '%s\n' | awk '{ kilobytes += int(($1 + 1023) / 1024) } END { print kilobytes }')
-    sed -e "s|@VERSION@|$VERSION|" -e "s|@SIZE@|$size|" packaging/debian/control.in >"$root/DEBIAN/control"
-    cp packaging/debian/triggers "$root/DEBIAN"
-    same_times "$root"
-    dpkg-deb --root-owner-group -Zgzip --build "$root" "$made/deno-semver_${VERSION}_amd64.deb" >/dev/null
+    libc=$(objdump -T "$root/usr/lib/x86_64-linux-gnu/libdeno_semver.so.0" "$root/usr/bin/ranges" "$root/usr/bin/npmver" 2>/dev/null |
+        grep -o 'GLIBC_[0-9.]*' | sed 's/GLIBC_//' | sort -V | tail -n 1)
+    sed -e "s|@VERSION@|$VERSION-1|" -e "s|@SIZE@|$size|" -e "s|@LIBC@|$libc|" packaging/debian/control.in >"$root/DEBIAN/control"
+    install -m 644 packaging/debian/triggers "$root/DEBIAN/triggers"
+    echo "libdeno_semver 0 deno-semver (>= $VERSION)" >"$root/DEBIAN/shlibs"
+    (cd "$root" && find usr -type f -print0 | sort -z | xargs -0 md5sum >DEBIAN/md5sums)
+    find "$root" -exec touch -h -d "@$SOURCE_DATE_EPOCH" {} +
+    dpkg-deb --root-owner-group -Zgzip --build "$root" "$made/deno-semver_$VERSION-1_amd64.deb" >/dev/null
 }
 
 # The crate for Rust, with its library.
 rust_crate() {
     name=deno_semver_proved-$VERSION
     mkdir -p "$work/$name/lib/x86_64-unknown-linux-gnu"
-    cp -r bindings/rust/src bindings/rust/examples bindings/rust/build.rs bindings/rust/Cargo.toml bindings/rust/README.md LICENSE "$work/$name"
+    cp -r bindings/rust/src bindings/rust/examples bindings/rust/build.rs bindings/rust/Cargo.toml bindings/rust/README.md "$work/$name"
+    cp LICENSE packaging/THIRD-PARTY "$work/$name"
     cp "$calls" "$heap" "$work/$name/lib/x86_64-unknown-linux-gnu"
-    same_times "$work/$name"
-    tar -C "$work" --sort=name --owner=0 --group=0 --numeric-owner --format=gnu -cf "$work/$name.tar" "$name"
-    gzip -9n <"$work/$name.tar" >"$made/$name-x86_64-linux.tar.gz"
+    pack "$name" "$name-x86_64-linux"
 }
 
-# The packages of other languages, for x86-64: the wheel for Python, the crate for Rust, and for JavaScript the package that bindings/js
-# built, where it did.
+# The npm package and the page, where semver.wasm is there and no older than a source of it.
+javascript() {
+    if ! without=$(bindings/js/package.py 2>&1); then return; fi
+    name=deno_semver-$VERSION-page
+    mkdir "$work/$name"
+    cp bindings/js/out/page/index.html LICENSE packaging/THIRD-PARTY "$work/$name"
+    pack "$name" "$name"
+    if ! command -v npm >/dev/null; then
+        without='there is no npm'
+        return
+    fi
+    (cd bindings/js/out/package && npm pack --offline --silent --pack-destination "$made" >/dev/null)
+}
+
+# The packages of other languages, for x86-64.
 packages() {
     bindings/python/make_wheel.py out/x86_64/libdeno_semver.so.0 "$made" >/dev/null
     parts x86_64
     calls=crates/semver_c/out/libsemver_c.a
     if [ -n "$STATIC" ]; then calls=out/x86_64/libsemver_c.a; fi
     rust_crate
-    if [ -d bindings/js/out/package ] && command -v npm >/dev/null; then
-        (cd bindings/js/out/package && npm pack --offline --silent --pack-destination "$made" >/dev/null)
-    fi
+    javascript
+}
+
+# The version of the GNU C library below the compiler.
+glibc() {
+    echo '#include <features.h>' | "${CC:-cc}" -E -dM - | awk '/ __GLIBC__ /{ major = $3 } / __GLIBC_MINOR__ /{ minor = $3 } END { print major "." minor }'
 }
 
 release() {
@@ -139,10 +185,12 @@ release() {
         echo 'For arm64 the programs and the C library were proved once more; what is below them there is trusted: packaging/arm64, in C.'
     esac
     if [ -n "$STATIC" ]; then
-        echo 'The static programs have parts of the GNU C library in them, whose licence is the LGPL.'
+        echo "The static programs have parts of the GNU C library $(glibc) in them, whose licence is the LGPL: THIRD-PARTY says how to link them"
+        echo 'with another one.'
     else
         echo 'THE PROGRAMS ARE NOT STATIC.'
     fi
+    [ -z "$without" ] || echo "There is no npm package in it: $without."
 }
 
 check
@@ -150,6 +198,7 @@ make_all
 SOURCE_DATE_EPOCH=$(git log -1 --format=%ct)
 export SOURCE_DATE_EPOCH
 changed=$(git status --porcelain)
+without=
 work=$(mktemp -d)
 trap 'rm -rf "$work"' EXIT
 made=$work/made
@@ -157,6 +206,7 @@ mkdir "$made"
 for arch in $ARCHES; do
     link "$arch"
     tarball "$arch"
+    if [ -n "$STATIC" ]; then objects "$arch"; fi
 done
 case $ARCHES in *x86_64*) debian; packages ;; esac
 release >"$made/RELEASE"
@@ -165,4 +215,5 @@ rm -rf "$DIST"
 mv "$work/SHA256SUMS" "$made"
 cp -r "$made" "$DIST"
 [ -z "$changed" ] || echo 'There are changes that are not committed, and RELEASE says so.'
+[ -z "$without" ] || echo "There is no npm package in the release: $without."
 echo "Made a release in $DIST: $(ls "$DIST" | tr '\n' ' ')"

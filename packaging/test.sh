@@ -1,13 +1,14 @@
 #!/bin/sh
 # Installs into a folder of its own and tries what is there, removes it, and then makes a release twice, whose bytes must be the same, and
 # tries what is in it, with a clean environment: the programs, the manual pages, and a C program over the shared and the static library
-# by pkg-config. What would have to be proved first isn't in it: static programs, if neither `make x86_64` nor a first `rt ci` left their
+# by pkg-config. It compares the files of each, and their modes, with a list, and looks for the licences in each package. What would have to be proved first isn't in it: static programs, if neither `make x86_64` nor a first `rt ci` left their
 # object files, and arm64, if `make aarch64` didn't; qemu-aarch64 runs that. It stops at the first failure. Run at the top of the project,
 # after a build.
 set -e
 root=$(mktemp -d)
 trap 'rm -rf "$root"' EXIT
 export PYTHONDONTWRITEBYTECODE=1
+version=$(make -s version)
 
 fail() {
     echo "packaging: $1" >&2
@@ -29,26 +30,98 @@ expect() { # WANTED COMMAND.. with a clean environment
 try_programs() { # FOLDER COMMAND..
     folder=$1
     shift
-    expect 'ranges 0.1.0' "$@" "$folder/bin/ranges" --version
+    expect "ranges $version" "$@" "$folder/bin/ranges" --version
+    if stated=$("$@" "$folder/bin/npmver" --version 2>/dev/null) && [ "$stated" != "npmver $version" ]; then
+        fail "npmver --version: $stated, and not $version"
+    fi
     expect yes "$@" "$folder/bin/npmver" fits npm '>=1.2 <2 || 3' 1.3.0
     if has man; then
         for page in "$folder"/share/man/man1/*; do
-            man -l "$page" | grep -q 'EXIT STATUS' || fail "$page has no exit status"
+            man -l "$page" >"$root/page"
+            grep -q 'EXIT STATUS' "$root/page" || fail "$page has no exit status"
+            grep -q "deno_semver $version" "$root/page" || fail "$page doesn't have the version $version"
         done
     fi
 }
 
 # packaging/example.c over the library below a folder, by a C compiler; further arguments run it. PKG_CONFIG_SYSROOT_DIR is for DESTDIR.
-try_c() { # FOLDER COMPILER COMMAND..
-    folder=$1 compiler=$2
+try_c() { # LIBDIR COMPILER COMMAND..
+    libraries=$1 compiler=$2
     shift 2
-    has pkg-config || return 0
-    export PKG_CONFIG_LIBDIR="$folder/lib/pkgconfig"
+    if ! has pkg-config; then
+        echo 'packaging: no pkg-config, so no C program is built over the installed library'
+        return
+    fi
+    export PKG_CONFIG_LIBDIR="$libraries/pkgconfig"
     "$compiler" -o "$root/shared" packaging/example.c $(pkg-config --cflags --libs deno_semver)
-    "$compiler" -o "$root/static" packaging/example.c $(pkg-config --cflags deno_semver) "$folder/lib/libdeno_semver.a"
-    expect yes env LD_LIBRARY_PATH="$folder/lib" "$@" "$root/shared"
+    "$compiler" -o "$root/static" packaging/example.c $(pkg-config --cflags deno_semver) "$libraries/libdeno_semver.a"
+    expect yes env LD_LIBRARY_PATH="$libraries" "$@" "$root/shared"
     expect yes "$@" "$root/static"
     rm "$root/shared" "$root/static"
+}
+
+# Compares what is below a folder with a list on standard input: of each file its mode and its name, of a link what it names.
+holds() { # FOLDER
+    sort -k 2 >"$root/wanted"
+    (cd "$1" && find . -type f -printf '%m %P\n' -o -type l -printf 'link %P %l\n' -o ! -type d -printf 'other %P\n') | sort -k 2 >"$root/found"
+    diff "$root/wanted" "$root/found" >&2 || fail "$1 holds other files, or modes, than it should (> found, < wanted)"
+    find "$1" -mindepth 1 -type d ! -perm 755 -printf '%m %p\n' >"$root/found"
+    [ ! -s "$root/found" ] || fail "folders with other modes than 755: $(cat "$root/found")"
+}
+
+# What make install and the tarballs hold alike.
+installed() { # LIBDIR
+    cat <<END
+755 bin/npmver
+755 bin/ranges
+644 include/semver.h
+644 $1/libdeno_semver.a
+link $1/libdeno_semver.so libdeno_semver.so.0
+644 $1/libdeno_semver.so.0
+644 $1/pkgconfig/deno_semver.pc
+644 share/bash-completion/completions/ranges
+644 share/fish/vendor_completions.d/ranges.fish
+644 share/man/man1/npmver.1
+644 share/man/man1/ranges.1
+644 share/zsh/site-functions/_ranges
+END
+}
+
+documents() { # FOLDER
+    printf '644 %s/LICENSE\n644 %s/THIRD-PARTY\n' "$1" "$1"
+}
+
+# Whether a file, or a folder's LICENSE and THIRD-PARTY, has the licence of the project and the notices.
+licensed() { # FILE_OR_FOLDER
+    if [ -d "$1" ]; then
+        cmp LICENSE "$1/LICENSE" && cmp packaging/THIRD-PARTY "$1/THIRD-PARTY" || fail "$1 lacks a licence"
+    else
+        { cat LICENSE; echo; cat packaging/THIRD-PARTY; } | cmp - "$1" || fail "$1 lacks a licence"
+    fi
+}
+
+# THIRD-PARTY has each crate of the kit that the project names, or of which a symbol is in what was built, and the crate's lines of
+# copyright.
+names_crates() {
+    kit=$(dirname "$(rt doc)")/rattle
+    sed 's/.*://' crates.txt | tr ' ' '\n' >"$root/crates"
+    for built in crates/ranges/out/ranges.o crates/npmver/out/npmver.o crates/semver_c/out/libsemver_c.a; do
+        if [ -f $built ]; then nm $built 2>/dev/null | awk '{ print $NF }' | grep -o '^[a-z_0-9]*::' | tr -d : >>"$root/crates"; fi
+    done
+    sort -u "$root/crates" | while read -r crate; do
+        for licence in "$kit/$crate"/LICENSE*; do
+            [ -n "$crate" ] && [ -f "$licence" ] || continue
+            case $licence in
+                *-UNICODE) name=Unicode ;;
+                *) name=$(echo "$crate" | sed 's/_/[-_]/g') ;;
+            esac
+            [ "$crate" != ryu ] || name=zmij
+            grep -q "\<$name\>" packaging/THIRD-PARTY || fail "packaging/THIRD-PARTY doesn't name $crate"
+            grep -h '^ *Copyright \((c)\|©\)' "$licence" | while read -r line; do
+                grep -qF "$line" packaging/THIRD-PARTY || fail "packaging/THIRD-PARTY lacks the line of $crate: $line"
+            done
+        done
+    done
 }
 
 rejects() { # WHY ARGUMENT.. by make install
@@ -63,18 +136,21 @@ install_and_remove() {
     here=$root/installed$prefix
     rejects 'a relative PREFIX' PREFIX=relative
     rejects 'a PREFIX with whitespace' PREFIX='/a b'
-    make -s install PREFIX=$prefix DESTDIR="$root/installed" >/dev/null
+    rejects 'a relative LIBDIR' LIBDIR=lib64
+    (umask 077 && make -s install PREFIX=$prefix LIBDIR=$prefix/lib64 DESTDIR="$root/installed" >/dev/null)
+    { installed lib64; documents share/doc/deno-semver; } | holds "$here"
+    licensed "$here/share/doc/deno-semver"
     try_programs "$here"
     completion="$here/share/bash-completion/completions/ranges"
     expect explain bash -c ". '$completion'; COMP_WORDS=(ranges ex); COMP_CWORD=1; _ranges; echo \${COMPREPLY[@]}"
-    if nm -D --defined-only "$here/lib/libdeno_semver.so.0" | grep -v ' semver_\| DENO_SEMVER_0'; then
+    if nm -D --defined-only "$here/lib64/libdeno_semver.so.0" | grep -v ' semver_\| DENO_SEMVER_0'; then
         fail 'the shared library exports more than semver.h'
     fi
     PKG_CONFIG_SYSROOT_DIR=$root/installed
     export PKG_CONFIG_SYSROOT_DIR
-    try_c "$here" "${CC:-cc}"
+    try_c "$here/lib64" "${CC:-cc}"
     unset PKG_CONFIG_SYSROOT_DIR
-    make -s uninstall PREFIX=$prefix DESTDIR="$root/installed"
+    make -s uninstall PREFIX=$prefix LIBDIR=$prefix/lib64 DESTDIR="$root/installed"
     [ -z "$(find "$root/installed" ! -type d)" ] || fail 'make uninstall leaves files'
     echo 'packaging: installed, tried and removed'
 }
@@ -104,22 +180,55 @@ release_twice() {
 try_tarball() { # ARCH COMPILER COMMAND..
     arch=$1 compiler=$2
     shift 2
-    tar -C "$root" -xzf "$root/first/deno_semver-0.1.0-$arch-linux.tar.gz"
-    unpacked=$root/deno_semver-0.1.0-$arch-linux
+    tar -C "$root" -xzf "$root/first/deno_semver-$version-$arch-linux.tar.gz"
+    unpacked=$root/deno_semver-$version-$arch-linux
+    { installed lib; documents . | sed 's|\./||'; echo '644 README.md'; if [ -n "$static" ]; then echo '644 LGPL-2.1'; fi; } | holds "$unpacked"
+    licensed "$unpacked"
     if [ -n "$static" ] && readelf -l "$unpacked/bin/ranges" "$unpacked/bin/npmver" | grep INTERP; then
         fail 'a program of the release needs a loader'
     fi
     try_programs "$unpacked" "$@"
-    try_c "$unpacked" "$compiler" "$@"
+    try_c "$unpacked/lib" "$compiler" "$@"
     tools/programs/check.py "$unpacked/bin" "$@"
+    if [ -n "$static" ]; then try_objects "$@"; fi
+}
+
+# Links the programs from the tarball with their object files, as THIRD-PARTY says it.
+try_objects() { # COMMAND..
+    objects=$unpacked-objects
+    tar -C "$root" -xzf "$root/first/$(basename "$objects").tar.gz"
+    licensed "$objects"
+    sed -n 's/^    cc \(-static .*\)/\1/p' packaging/THIRD-PARTY >"$root/commands"
+    [ -s "$root/commands" ] || fail "packaging/THIRD-PARTY doesn't say how to link the programs"
+    while read -r options; do (cd "$objects" && "$compiler" $options); done <"$root/commands"
+    expect "ranges $version" "$@" "$objects/ranges" --version
+    expect yes "$@" "$objects/npmver" fits npm '>=1.2 <2 || 3' 1.3.0
 }
 
 # Installs and removes the package below a folder with a database of its own, so that the machine's stays as it is.
 try_debian() {
+    package=$(ls "$root"/first/*.deb)
+    if has lintian; then
+        lintian --allow-root --fail-on error "$package" >"$root/lintian.log" 2>&1 || fail "lintian: $(cat "$root/lintian.log")"
+    else
+        echo 'packaging: no lintian, so the Debian package is not judged by it'
+    fi
+    expect "$version-1" dpkg-deb -f "$package" Version
+    dpkg-deb -x "$package" "$root/unpacked"
+    {
+        installed lib/x86_64-linux-gnu | sed -e 's|man1/.*|&.gz|' -e 's|site-functions|vendor-completions|'
+        printf '644 share/doc/deno-semver/%s\n' copyright changelog.Debian.gz
+        if [ -n "$static" ]; then echo '644 share/lintian/overrides/deno-semver'; fi
+    } | holds "$root/unpacked/usr"
+    licensed "$root/unpacked/usr/share/doc/deno-semver/copyright"
+    if [ "$(id -u)" != 0 ]; then
+        echo 'packaging: not root, so the Debian package is not installed'
+        return
+    fi
     system=$root/system
     mkdir -p "$system/var/lib/dpkg/info" "$system/var/lib/dpkg/updates"
     touch "$system/var/lib/dpkg/status"
-    dpkg --root="$system" --force-depends -i "$root"/first/*.deb >"$root/dpkg.log" 2>&1 || fail "dpkg -i: $(cat "$root/dpkg.log")"
+    dpkg --root="$system" --force-depends -i "$package" >"$root/dpkg.log" 2>&1 || fail "dpkg -i: $(cat "$root/dpkg.log")"
     try_programs "$system/usr"
     dpkg --root="$system" -r deno-semver >"$root/dpkg.log" 2>&1 || fail "dpkg -r: $(cat "$root/dpkg.log")"
     [ ! -e "$system/usr" ] || fail 'dpkg -r leaves files'
@@ -130,20 +239,63 @@ try_packages() {
     python3 -m venv "$root/environment"
     "$root/environment/bin/pip" install --quiet --no-index --disable-pip-version-check "$root"/first/*.whl
     expect 1.2.0 "$root/environment/bin/python" -c 'import deno_semver; print(deno_semver.best("^1", ["1.0.0", "1.2.0", "2.0.0"]))'
+    licensed "$(echo "$root"/environment/lib/python3*/site-packages/"deno_semver-$version.dist-info/licenses")"
+    tar -C "$root" -xzf "$root/first/deno_semver_proved-$version-x86_64-linux.tar.gz"
+    licensed "$root/deno_semver_proved-$version"
     if has cargo; then
-        tar -C "$root" -xzf "$root/first/deno_semver_proved-0.1.0-x86_64-linux.tar.gz"
         mkdir -p "$root/user/src"
-        printf '[package]\nname = "user"\nversion = "0.1.0"\nedition = "2021"\n[dependencies]\ndeno_semver_proved = { path = "../deno_semver_proved-0.1.0" }\n' >"$root/user/Cargo.toml"
+        printf '[package]\nname = "user"\nversion = "0.1.0"\nedition = "2021"\n[dependencies]\ndeno_semver_proved = { path = "../deno_semver_proved-%s" }\n' "$version" >"$root/user/Cargo.toml"
         printf 'fn main() { println!("{}", deno_semver_proved::npm::parse_npm_version_req(">=1.2 <2 || 3").unwrap().to_string_normalized()) }\n' >"$root/user/src/main.rs"
         (cd "$root/user" && cargo build --offline --quiet)
         expect '^1.2.0 || 3' "$root/user/target/debug/user"
     fi
-    if has npm && ls "$root"/first/*.tgz >/dev/null 2>&1; then
+    try_javascript
+}
+
+# The npm package and the page are in the release exactly if semver.wasm is as the sources are; if not, RELEASE says why.
+try_javascript() {
+    if ! why=$(bindings/js/package.py 2>&1); then
+        if ls "$root"/first/*.tgz "$root"/first/*-page.tar.gz 2>/dev/null; then fail "the release has an npm package or a page, though $why"; fi
+        grep -qF "$why" "$root/first/RELEASE" || fail "RELEASE doesn't say that $why"
+        echo "packaging: no npm package and no page is tried, since $why"
+        return
+    fi
+    tar -C "$root" -xzf "$root/first/deno_semver-$version-page.tar.gz"
+    { documents . | sed 's|\./||'; echo '644 index.html'; } | holds "$root/deno_semver-$version-page"
+    licensed "$root/deno_semver-$version-page"
+    cmp bindings/js/out/page/index.html "$root/deno_semver-$version-page/index.html" || fail 'the page of the release is not the one that was built'
+    if has npm; then
         mkdir "$root/project"
         echo '{"private": true}' >"$root/project/package.json"
-        (cd "$root/project" && npm install --offline --silent --no-audit --no-fund "$root"/first/*.tgz >/dev/null)
+        (cd "$root/project" && npm install --offline --silent --no-audit --no-fund "$root/first/deno-semver-$version.tgz" >/dev/null)
+        licensed "$root/project/node_modules/deno-semver"
         (cd "$root/project" && expect true "$(command -v node)" -p 'require("deno-semver").matches("^1.2", "1.3.0")')
     fi
+}
+
+# In a copy of the sources with a file in place of semver.wasm: the npm package is made of it, and with what changed in the sources since,
+# unless a source of semver.wasm is newer.
+rejects_stale() {
+    copy=$root/copy
+    mkdir "$copy"
+    tar -cf - --exclude=out crates crates.txt bindings docs/NODE_SEMVER.md LICENSE packaging/THIRD-PARTY | tar -C "$copy" -xf -
+    if why=$("$copy/bindings/js/package.py" 2>&1); then fail 'an npm package is made without semver.wasm'; fi
+    mkdir "$copy/bindings/js/out"
+    echo wasm >"$copy/bindings/js/out/semver.wasm"
+    "$copy/bindings/js/package.py"
+    rm "$copy/bindings/js/src/held.js" "$copy/bindings/js/src/compat-values.js"
+    sed -i 's/"held", //' "$copy/bindings/js/package.py"
+    echo '// changed' >>"$copy/bindings/js/src/index.js"
+    "$copy/bindings/js/package.py"
+    grep -q '^// changed' "$copy/bindings/js/out/package/index.js" || fail 'the npm package has an old source'
+    [ ! -e "$copy/bindings/js/out/package/held.js" ] || fail 'the npm package has a source that was removed'
+    for source in crates/semver_base/src/lib.rt crates/semver_c/src/lib.rt bindings/js/wasm/semver_wasm.c bindings/js/build.py bindings/c/semver.h; do
+        touch -d '1 minute' "$copy/$source"
+        if "$copy/bindings/js/package.py" 2>"$root/why"; then fail "an npm package is made though $source is newer than semver.wasm"; fi
+        grep -q "${source%/src/*}" "$root/why" || fail "what is newer than semver.wasm isn't said: $(cat "$root/why")"
+        touch -r "$copy/bindings/js/out/semver.wasm" "$copy/$source"
+    done
+    rm -r "$copy"
 }
 
 # C's questions and examples over arm64's heap, which counts blocks and runs out of memory as bindings/test.sh has it.
@@ -159,6 +311,9 @@ try_questions() { # COMMAND..
 }
 
 packaging/generate.py --check
+packaging/versions.py "$version"
+names_crates
+rejects_stale
 install_and_remove
 if ! why=$(packaging/tools.sh --static "${CC:-cc}" git dpkg-deb 2>&1); then
     echo "packaging: no release is tried; $why"
@@ -181,7 +336,7 @@ if [ -n "$static" ]; then has_arm64_calls; fi
 release_twice
 try_tarball x86_64 "${CC:-cc}"
 try_packages
-if [ "$(id -u)" = 0 ]; then try_debian; else echo 'packaging: not root, so the Debian package is not installed'; fi
+try_debian
 if [ "$arches" != x86_64 ]; then
     try_tarball aarch64 aarch64-linux-gnu-gcc qemu-aarch64 -L /usr/aarch64-linux-gnu
     try_questions qemu-aarch64 -L /usr/aarch64-linux-gnu
