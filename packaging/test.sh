@@ -280,6 +280,7 @@ rejects_stale() {
     mkdir "$copy"
     tar -cf - --exclude=out crates crates.txt bindings docs/NODE_SEMVER.md LICENSE packaging/THIRD-PARTY | tar -C "$copy" -xf -
     if why=$("$copy/bindings/js/package.py" 2>&1); then fail 'an npm package is made without semver.wasm'; fi
+    [ "$why" = 'bindings/js/build.py has built no semver.wasm' ] || fail "without semver.wasm: $why"
     mkdir "$copy/bindings/js/out"
     echo wasm >"$copy/bindings/js/out/semver.wasm"
     "$copy/bindings/js/package.py"
