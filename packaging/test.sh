@@ -60,6 +60,21 @@ try_c() { # LIBDIR COMPILER COMMAND..
     rm "$root/shared" "$root/static"
 }
 
+# With few commands, make test stops before the proofs, and all that is missing is named at once.
+names_missing() {
+    mkdir "$root/few"
+    for command in mktemp rm sh tar gzip; do ln -s "$(command -v $command)" "$root/few/$command"; done
+    printf '#!/bin/sh\nexit 1\n' >"$root/few/cc"
+    cp "$root/few/cc" "$root/few/python3"
+    chmod 755 "$root/few/cc" "$root/few/python3"
+    if PATH=$root/few "$(command -v make)" test >"$root/missing.log" 2>&1; then fail 'make test runs without its tools'; fi
+    for missing in 'rt (the Rattle kit)' "git (Debian's package git)" "objcopy (Debian's package binutils)" \
+        "python3 -m venv (Debian's package python3-venv)" "cc that links a program (Debian's package libc6-dev)"; do
+        grep '^missing: ' "$root/missing.log" | grep -qF "$missing" || fail "without tools make test says: $(cat "$root/missing.log")"
+    done
+    rm -r "$root/few"
+}
+
 # Compares what is below a folder with a list on standard input: of each file its mode and its name, of a link what it names.
 holds() { # FOLDER
     sort -k 2 >"$root/wanted"
@@ -313,6 +328,7 @@ try_questions() { # COMMAND..
 
 packaging/generate.py --check
 packaging/versions.py "$version"
+names_missing
 names_crates
 rejects_stale
 install_and_remove
