@@ -267,11 +267,17 @@ try_packages() {
     try_javascript
 }
 
-# The npm package and the page are in the release exactly if semver.wasm is as the sources are; if not, RELEASE says why.
+# A release without a semver.wasm that is up to date has no npm package and no page, and RELEASE says why.
+lacks_javascript() { # FOLDER
+    if why=$(bindings/js/package.py 2>&1); then fail 'semver.wasm is up to date'; fi
+    if ls "$1"/*.tgz "$1"/*-page.tar.gz 2>/dev/null; then fail "the release has an npm package or a page, though $why"; fi
+    grep -qF "$why" "$1/RELEASE" || fail "RELEASE doesn't say that $why"
+}
+
+# The npm package and the page, where semver.wasm is up to date; and then a release while it is older than its sources.
 try_javascript() {
     if ! why=$(bindings/js/package.py 2>&1); then
-        if ls "$root"/first/*.tgz "$root"/first/*-page.tar.gz 2>/dev/null; then fail "the release has an npm package or a page, though $why"; fi
-        grep -qF "$why" "$root/first/RELEASE" || fail "RELEASE doesn't say that $why"
+        lacks_javascript "$root/first"
         echo "packaging: no npm package and no page is tried, since $why"
         return
     fi
@@ -286,6 +292,11 @@ try_javascript() {
         licensed "$root/project/node_modules/deno-semver"
         (cd "$root/project" && expect true "$(command -v node)" -p 'require("deno-semver").matches("^1.2", "1.3.0")')
     fi
+    touch -r bindings/js/out/semver.wasm "$root/time"
+    touch -d 2000-01-01 bindings/js/out/semver.wasm
+    make -s dist GATE= STATIC="$static" ARCHES=x86_64 DIST="$root/stale" >/dev/null
+    lacks_javascript "$root/stale"
+    touch -r "$root/time" bindings/js/out/semver.wasm
 }
 
 # In a copy of the sources with a file in place of semver.wasm: the npm package is made of it, and with what changed in the sources since,
