@@ -167,7 +167,8 @@ packages() {
 
 # The version of the GNU C library below the compiler.
 glibc() {
-    echo '#include <features.h>' | "${CC:-cc}" -E -dM - | awk '/ __GLIBC__ /{ major = $3 } / __GLIBC_MINOR__ /{ minor = $3 } END { print major "." minor }'
+    echo '#include <features.h>' | "${CC:-cc}" -E -dM - |
+        awk '/ __GLIBC__ /{ major = $3 } / __GLIBC_MINOR__ /{ minor = $3 } END { print major "." minor }'
 }
 
 release() {
@@ -185,8 +186,8 @@ release() {
         echo 'For arm64 the programs and the C library were proved once more; what is below them there is trusted: packaging/arm64, in C.'
     esac
     if [ -n "$STATIC" ]; then
-        echo "The static programs have parts of the GNU C library $(glibc) in them, whose licence is the LGPL: THIRD-PARTY says how to link them"
-        echo 'with another one.'
+        echo "The static programs have parts of the GNU C library $(glibc) in them, whose licence is the LGPL."
+        echo 'THIRD-PARTY in each tarball says how to link them with another one.'
     else
         echo 'THE PROGRAMS ARE NOT STATIC.'
     fi

@@ -1,9 +1,9 @@
 #!/bin/sh
 # Installs into a folder of its own and tries what is there, removes it, and then makes a release twice, whose bytes must be the same, and
 # tries what is in it, with a clean environment: the programs, the manual pages, and a C program over the shared and the static library
-# by pkg-config. It compares the files of each, and their modes, with a list, and looks for the licences in each package. What would have to be proved first isn't in it: static programs, if neither `make x86_64` nor a first `rt ci` left their
-# object files, and arm64, if `make aarch64` didn't; qemu-aarch64 runs that. It stops at the first failure. Run at the top of the project,
-# after a build.
+# by pkg-config. It compares the files of each, and their modes, with a list, and looks for the licences in each package. What would have
+# to be proved first isn't in it: static programs, if neither `make x86_64` nor a first `rt ci` left their object files, and arm64, if
+# `make aarch64` didn't; qemu-aarch64 runs that. It stops at the first failure. Run at the top of the project, after a build.
 set -e
 root=$(mktemp -d)
 trap 'rm -rf "$root"' EXIT
@@ -78,7 +78,7 @@ names_missing() {
 # Compares what is below a folder with a list on standard input: of each file its mode and its name, of a link what it names.
 holds() { # FOLDER
     sort -k 2 >"$root/wanted"
-    (cd "$1" && find . -type f -printf '%m %P\n' -o -type l -printf 'link %P %l\n' -o ! -type d -printf 'other %P\n') | sort -k 2 >"$root/found"
+    find "$1" -type f -printf '%m %P\n' -o -type l -printf 'link %P %l\n' -o ! -type d -printf 'other %P\n' | sort -k 2 >"$root/found"
     diff "$root/wanted" "$root/found" >&2 || fail "$1 holds other files, or modes, than it should (> found, < wanted)"
     find "$1" -mindepth 1 -type d ! -perm 755 -printf '%m %p\n' >"$root/found"
     [ ! -s "$root/found" ] || fail "folders with other modes than 755: $(cat "$root/found")"
@@ -100,10 +100,6 @@ link $1/libdeno_semver.so libdeno_semver.so.0
 644 share/man/man1/ranges.1
 644 share/zsh/site-functions/_ranges
 END
-}
-
-documents() { # FOLDER
-    printf '644 %s/LICENSE\n644 %s/THIRD-PARTY\n' "$1" "$1"
 }
 
 # Whether a file, or a folder's LICENSE and THIRD-PARTY, has the licence of the project and the notices.
@@ -153,7 +149,7 @@ install_and_remove() {
     rejects 'a PREFIX with whitespace' PREFIX='/a b'
     rejects 'a relative LIBDIR' LIBDIR=lib64
     (umask 077 && make -s install PREFIX=$prefix LIBDIR=$prefix/lib64 DESTDIR="$root/installed" >/dev/null)
-    { installed lib64; documents share/doc/deno-semver; } | holds "$here"
+    { installed lib64; printf '644 share/doc/deno-semver/%s\n' LICENSE THIRD-PARTY; } | holds "$here"
     licensed "$here/share/doc/deno-semver"
     try_programs "$here"
     completion="$here/share/bash-completion/completions/ranges"
@@ -197,7 +193,11 @@ try_tarball() { # ARCH COMPILER COMMAND..
     shift 2
     tar -C "$root" -xzf "$root/first/deno_semver-$version-$arch-linux.tar.gz"
     unpacked=$root/deno_semver-$version-$arch-linux
-    { installed lib; documents . | sed 's|\./||'; echo '644 README.md'; if [ -n "$static" ]; then echo '644 LGPL-2.1'; fi; } | holds "$unpacked"
+    {
+        installed lib
+        printf '644 %s\n' LICENSE README.md THIRD-PARTY
+        if [ -n "$static" ]; then echo '644 LGPL-2.1'; fi
+    } | holds "$unpacked"
     licensed "$unpacked"
     if [ -n "$static" ] && readelf -l "$unpacked/bin/ranges" "$unpacked/bin/npmver" | grep INTERP; then
         fail 'a program of the release needs a loader'
@@ -236,6 +236,8 @@ try_debian() {
         if [ -n "$static" ]; then echo '644 share/lintian/overrides/deno-semver'; fi
     } | holds "$root/unpacked/usr"
     licensed "$root/unpacked/usr/share/doc/deno-semver/copyright"
+    newest=$(objdump -T "$root"/unpacked/usr/bin/* "$root"/unpacked/usr/lib/*/*.so.0 2>/dev/null | grep -o 'GLIBC_[0-9.]*' | sort -V | tail -n 1)
+    expect "libc6 (>= ${newest#GLIBC_})" dpkg-deb -f "$package" Depends
     if [ "$(id -u)" != 0 ]; then
         echo 'packaging: not root, so the Debian package is not installed'
         return
@@ -282,9 +284,9 @@ try_javascript() {
         return
     fi
     tar -C "$root" -xzf "$root/first/deno_semver-$version-page.tar.gz"
-    { documents . | sed 's|\./||'; echo '644 index.html'; } | holds "$root/deno_semver-$version-page"
+    printf '644 %s\n' LICENSE THIRD-PARTY index.html | holds "$root/deno_semver-$version-page"
     licensed "$root/deno_semver-$version-page"
-    cmp bindings/js/out/page/index.html "$root/deno_semver-$version-page/index.html" || fail 'the page of the release is not the one that was built'
+    cmp bindings/js/out/page/index.html "$root/deno_semver-$version-page/index.html" || fail 'the release has another page'
     if has npm; then
         mkdir "$root/project"
         echo '{"private": true}' >"$root/project/package.json"
@@ -316,7 +318,8 @@ rejects_stale() {
     "$copy/bindings/js/package.py"
     grep -q '^// changed' "$copy/bindings/js/out/package/index.js" || fail 'the npm package has an old source'
     [ ! -e "$copy/bindings/js/out/package/held.js" ] || fail 'the npm package has a source that was removed'
-    for source in crates/semver_base/src/lib.rt crates/semver_c/src/lib.rt bindings/js/wasm/semver_wasm.c bindings/js/build.py bindings/c/semver.h; do
+    for source in crates/semver_base/src/lib.rt crates/semver_c/src/lib.rt bindings/js/wasm/semver_wasm.c bindings/js/build.py \
+        bindings/c/semver.h; do
         touch -d '1 minute' "$copy/$source"
         if "$copy/bindings/js/package.py" 2>"$root/why"; then fail "an npm package is made though $source is newer than semver.wasm"; fi
         grep -q "${source%/src/*}" "$root/why" || fail "what is newer than semver.wasm isn't said: $(cat "$root/why")"
