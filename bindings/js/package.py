@@ -103,7 +103,9 @@ def why_stale():
     for path in (HERE / "build.py", HERE.parent / "c/semver.h", *(HERE / "wasm").rglob("*.[ch]")):
         changed[path] = path.stat().st_mtime
     newer = [str(path.relative_to(TOP)) for path, time in changed.items() if time > built]
-    return f"{', '.join(newer)} changed after bindings/js/build.py built semver.wasm" if newer else None
+    if not newer:
+        return None
+    return f"{newer[0]}{' and more' * (len(newer) > 1)} changed after bindings/js/build.py built semver.wasm"
 
 
 def main():
