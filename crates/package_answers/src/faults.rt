@@ -1,20 +1,17 @@
 //! Why the text of a package or a reference is invalid, as JSON.
 
-ghost use Rattle.std.specs.Prelude.{◌≡◌, IfOk, Result, is_err, is_some, string_bytes};
+ghost use Rattle.std.specs.Prelude.{◌≡◌, IfOk, List, Option, string_bytes, ℕ};
 ghost use Rattle.std.specs.Option.{option_copied, option_map};
-ghost use Rattle.deno_semver.specs.PackageOutcome.{PackageFault, IsPackageOutcome};
-ghost use Rattle.deno_semver.specs.ReferenceOutcome.{ReferenceFault};
-ghost use Rattle.deno_semver.specs.declared.package.values.PackageReq.{PackageReq};
 ghost use Rattle.package_answers.specs.Faults.{IsFaultText, IsPackageFault, IsReferenceFault, parts_kind};
-ghost use Rattle.package_answers.specs.References.{IsRegistryOutcome};
-ghost use Rattle.package_answers.specs.declared.references.Reference.{Reference};
 
 use crate::packages::{parse as parse_package, parts_failure};
 use crate::references::{parse as parse_reference, reference_failure, registry_of};
 use answers::object::{Object, json_text};
 use deno_semver::ParseFailure;
+use deno_semver::laws::{package_texts_have_one_outcome, references_have_one_outcome};
 use deno_semver::package::{PackageReqPartsParseError, PackageReqReferenceParseError};
 use semver_req::common::values::Flavour;
+use semver_req::laws::texts_are_rejected_for_one_reason;
 use std::alloc::{AllocError, Global};
 
 // The kind of a package's error.
@@ -64,10 +61,11 @@ pub fn package_fault(
 ) -> Result<Option<String>, AllocError>
     ensures is { IfOk result
         (λ answer. IsPackageFault flavour text.now (option_map string_bytes answer)) }
-    ensures only { (outcome : Result PackageReq PackageFault)
-        → IsPackageOutcome flavour text.now outcome
-        → IfOk result (λ answer. is_some answer ≡ is_err outcome) }
+    ensures only { (other : Option (List ℕ)) → IsPackageFault flavour text.now other
+        → IfOk result (λ answer. option_map string_bytes answer ≡ other) }
 {
+    texts_are_rejected_for_one_reason();
+    package_texts_have_one_outcome();
     match parse_package(alloc, flavour, text) {
         Ok(_req) => Ok(None),
         Err(error) => {
@@ -84,10 +82,11 @@ pub fn package_fault(
 pub fn reference_fault(alloc: Global, text: &str) -> Result<Option<String>, AllocError>
     ensures is { IfOk result
         (λ answer. IsReferenceFault text.now (option_map string_bytes answer)) }
-    ensures only { (outcome : Result Reference ReferenceFault)
-        → IsRegistryOutcome text.now outcome
-        → IfOk result (λ answer. is_some answer ≡ is_err outcome) }
+    ensures only { (other : Option (List ℕ)) → IsReferenceFault text.now other
+        → IfOk result (λ answer. option_map string_bytes answer ≡ other) }
 {
+    texts_are_rejected_for_one_reason();
+    references_have_one_outcome();
     let kind = registry_of(text);
     match parse_reference(alloc, kind, text) {
         Ok(_reference) => Ok(None),

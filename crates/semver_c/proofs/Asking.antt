@@ -11,6 +11,7 @@ use Rattle.semver_c.specs.Arguments.{CallFault, Called, IsCallAnswer, IsGrammar,
 use Rattle.semver_c.specs.declared.arguments.Problem.{Problem}
 use Rattle.semver_c.specs.declared.arguments.Problem.TheVariants as problem
 use Rattle.semver_c.specs.declared.arguments.Subject.{Subject}
+use Rattle.semver_c.specs.declared.arguments.Subject.TheVariants.{Package, Reference}
 
 -- ---- grammars
 
@@ -44,6 +45,33 @@ module _ (number : ℕ) where
       only : (o : Result Flavour CallFault) → IsGrammar number o → Err NoGrammar ≡ o
       only o (grammar {f = g} k) = absurd (let small = grammar_small g in omega (arith, k, small, more))
       only o (no_grammar other) = refl
+
+-- ---- subjects
+
+one_subject : (s t : Subject) → subject_number s ≡ subject_number t → s ≡ t
+one_subject Package Package e = refl
+one_subject Package Reference e = absurd (omega (arith, e))
+one_subject Reference Package e = absurd (omega (arith, e))
+one_subject Reference Reference e = refl
+
+subject_small : (s : Subject) → subject_number s < 2
+subject_small Package = omega arith
+subject_small Reference = omega arith
+
+module _ (number : ℕ) where
+  subject_found : (s : Subject) → number ≡ subject_number s → IsOutcomeOf memory (IsSubject number) (Ok s)
+  subject_found s e = record { is = inr (subject e); only = λ o a. inr (only o a) }
+    where
+      only : (o : Result Subject CallFault) → IsSubject number o → Ok s ≡ o
+      only o (subject {s = t} k) = ap Ok (one_subject s t (sym e ∙ k))
+      only o (no_subject more) = absurd (let small = subject_small s in omega (arith, e, small, more))
+
+  subject_missing : 1 < number → IsOutcomeOf memory (IsSubject number) (Err NoGrammar)
+  subject_missing more = record { is = inr (no_subject more); only = λ o a. inr (only o a) }
+    where
+      only : (o : Result Subject CallFault) → IsSubject number o → Err NoGrammar ≡ o
+      only o (subject {s = t} k) = absurd (let small = subject_small t in omega (arith, k, small, more))
+      only o (no_subject other) = refl
 
 -- ---- texts
 
@@ -88,6 +116,15 @@ exit value (Ok x) p is = absurd is
 exit value (Err e) p is = ap (λ (q : Problem). Err (call_fault q)) is
 
 module _ {E Y : Type 0} (value : E → Y) where
+  -- ---- after a subject
+
+  module _ (number : ℕ) (Asked : Subject → Result Y CallFault → Type 0) where
+    pub by_subject : (s : Subject) → number ≡ subject_number s → (r : Result E Problem) → IsCallAnswer (Asked s) value r → IsCallAnswer (Given (IsSubject number) Asked) value r
+    by_subject s e r h = by_value memory (IsSubject number) Asked s (subject_found number s e) (call_outcome value r) h
+
+    pub by_no_subject : (r : Result E Problem) (p : Problem) → IsErrAnd r (λ e. e ≡ p) → (p ≡ problem.NoGrammar) × (1 < number) → IsCallAnswer (Given (IsSubject number) Asked) value r
+    by_no_subject r p is h = subst (IsOutcomeOf memory (Given (IsSubject number) Asked)) (sym (exit value r p is ∙ ap (λ (q : Problem). Err (call_fault q)) h.0)) (by_fault memory (IsSubject number) Asked NoGrammar (subject_missing number h.1))
+
   -- ---- after a grammar
 
   module _ (number : ℕ) (Asked : Flavour → Result Y CallFault → Type 0) where
@@ -124,14 +161,6 @@ module _ {E Y : Type 0} (value : E → Y) where
 -- ---- questions that may have several outcomes
 
 module _ {E Y : Type 0} (value : E → Y) where
-  module _ (number : ℕ) (Asked : Subject → Result Y CallFault → Type 0) where
-    pub one_by_subject : (s : Subject) → number ≡ subject_number s → (r : Result E Problem) → IsOneCallAnswer (Asked s) value r → IsOneCallAnswer (Given (IsSubject number) Asked) value r
-    one_by_subject s e r (inl none) = inl none
-    one_by_subject s e r (inr a) = inr (valid (subject e) a)
-
-    pub one_by_no_subject : (r : Result E Problem) (p : Problem) → IsErrAnd r (λ e. e ≡ p) → (p ≡ problem.NoGrammar) × (1 < number) → IsOneCallAnswer (Given (IsSubject number) Asked) value r
-    one_by_no_subject r p is h = inr (subst (Given (IsSubject number) Asked) (sym (exit value r p is ∙ ap (λ (q : Problem). Err (call_fault q)) h.0)) (invalid (no_subject h.1)))
-
   module _ (number : ℕ) (Asked : Flavour → Result Y CallFault → Type 0) where
     pub one_by_grammar : (f : Flavour) → number ≡ grammar_number f → (r : Result E Problem) → IsOneCallAnswer (Asked f) value r → IsOneCallAnswer (Given (IsGrammar number) Asked) value r
     one_by_grammar f e r (inl none) = inl none
@@ -160,6 +189,13 @@ module _ {E Y : Type 0} (value : E → Y) where
   -- memory ran out
   pub one_by_memory : (Asked : Result Y CallFault → Type 0) (r : Result E Problem) (p : Problem) → IsErrAnd r (λ e. e ≡ p) → p ≡ problem.Unanswered unanswered.OutOfMemory → IsOneCallAnswer Asked value r
   one_by_memory Asked r p is e = inl (exit value r p is ∙ ap (λ (q : Problem). Err (call_fault q)) e)
+
+-- ---- faults
+
+-- the fault of a text, or that it has none, which has no other
+pub fault_found : {T : Type 0} (Asked : T → Type 0) (answer : T) → Asked answer → ((other : T) → Asked other → answer ≡ other)
+    → IsOutcomeOf OutOfMemory (λ (outcome : Result T Fault). (t : T) × Asked t × (outcome ≡ Ok t)) (Ok answer)
+fault_found Asked answer h only = record { is = inr (answer, h, refl); only = λ o a. inr (ap Ok (only a.0 a.1) ∙ sym a.2) }
 
 -- ---- places
 

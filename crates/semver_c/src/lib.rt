@@ -396,7 +396,7 @@ pub extern "C" fn semver_why(
     out: &mut [u8],
     needed: &mut usize,
 ) -> i32
-    ensures { IsOneReply (WhyBy what grammar text.now) found_code (or_message found_text)
+    ensures { IsReply (WhyBy what grammar text.now) found_code (or_message found_text)
         out.old out.new needed.new result }
 {
     match why_invalid(alloc, what, grammar, text) {

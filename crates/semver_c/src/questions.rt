@@ -315,7 +315,7 @@ pub fn why_invalid(
     grammar: u32,
     bytes: &[u8],
 ) -> Result<Option<String>, Problem>
-    ensures { IsOneCallAnswer (WhyBy what grammar bytes.now)
+    ensures { IsCallAnswer (WhyBy what grammar bytes.now)
         (λ answer. option_map string_bytes answer) result }
 {
     let subject = match what {
