@@ -63,8 +63,8 @@ pub extern "C" fn semver_fits(
     out: &mut [u8],
     needed: &mut usize,
 ) -> i32
-    ensures { IsReply (Fits pre_releases grammar range.now version.now) match_code (or_message no_text)
-        out.old out.new needed.new result }
+    ensures { IsReply (Fits pre_releases grammar range.now version.now)
+        match_code (or_message no_text) out.old out.new needed.new result }
 {
     match fits(alloc, grammar, range, version, pre_releases) {
         Ok(answer) => {

@@ -50,8 +50,8 @@ pub fn report_problem(problem: &Problem, out: &mut [u8], needed: &mut usize) -> 
 
 /// Reports a text.
 pub fn report_text(answer: Result<String, Problem>, out: &mut [u8], needed: &mut usize) -> i32
-    ensures { IsReported always_yes (or_message (λ text. text)) (call_outcome (λ text. string_bytes text) answer)
-        out.old out.new needed.new result }
+    ensures { IsReported always_yes (or_message (λ text. text))
+        (call_outcome (λ text. string_bytes text) answer) out.old out.new needed.new result }
 {
     match answer {
         Ok(text) => {
