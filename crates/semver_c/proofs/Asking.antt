@@ -1,13 +1,15 @@
 -- The results of calls, from those of questions about texts.
-use Rattle.std.proofs.Common.{◌≡◌, ◌∙◌, arith, ℕ, List, Ok, Err, Result, refl, sym, ap, subst, inl, inr, ◌⊎◌, ◌<◌, IsErrAnd, IsUtf8}
+use Rattle.std.proofs.Common.{◌≡◌, ◌∙◌, arith, ℕ, List, Ok, Err, Result, refl, sym, ap, subst, inl, inr, ◌⊎◌, ◌<◌, IfOk, IsErrAnd, IsUtf8, MatchResult}
+use Rattle.std.proofs.lemmas.Result.{err_from_is_err_and}
+use Rattle.std.specs.declared.alloc.AllocError.{AllocError}
 use Rattle.semver_req.specs.declared.common.values.Flavour.{Flavour}
 use Rattle.semver_req.specs.declared.common.values.Flavour.TheVariants.{Npm, Normal, Specifier}
 use Rattle.semver_req.specs.Viable.{IsErrorPlace, IsVersionText}
-use Rattle.answers.specs.AskingLaws.{by_value, by_fault, out_of_memory}
-use Rattle.answers.specs.Asking.{Fault, Given, IsOutcomeOf, OutOfMemory, fault_of, invalid, valid}
+use Rattle.answers.specs.AskingLaws.{answered, as_value, by_fault, by_value, fault_as_fault, fault_no_value, out_of_memory, same_fault, same_value, value_no_fault}
+use Rattle.answers.specs.Asking.{Fault, Given, Is, IsAnswer, IsOutcomeOf, OutOfMemory, fault_of, invalid, outcome_of, valid}
 use Rattle.answers.specs.declared.asking.Problem.{Problem as Unanswered}
 use Rattle.answers.specs.declared.asking.Problem.TheVariants as unanswered
-use Rattle.semver_c.specs.Arguments.{CallFault, Called, IsCallAnswer, IsGrammar, IsOneCallAnswer, IsSubject, IsUtf8Text, NoGrammar, NotUtf8, call_fault, called, called_outcome, grammar, grammar_number, memory, no_grammar, no_subject, no_text, call_outcome, subject, subject_number, text}
+use Rattle.semver_c.specs.Arguments.{CallFault, Called, IsArgument, IsCallAnswer, IsGrammar, IsOneCallAnswer, IsOnly, IsSubject, IsUtf8Text, NoGrammar, NotUtf8, call_fault, called, called_outcome, grammar, grammar_number, memory, no_grammar, no_subject, no_text, call_outcome, subject, subject_number, text}
 use Rattle.semver_c.specs.declared.arguments.Problem.{Problem}
 use Rattle.semver_c.specs.declared.arguments.Problem.TheVariants as problem
 use Rattle.semver_c.specs.declared.arguments.Subject.{Subject}
@@ -32,15 +34,15 @@ grammar_small Normal = omega arith
 grammar_small Specifier = omega arith
 
 module _ (number : ℕ) where
-  grammar_found : (f : Flavour) → number ≡ grammar_number f → IsOutcomeOf memory (IsGrammar number) (Ok f)
-  grammar_found f e = record { is = inr (grammar e); only = λ o a. inr (only o a) }
+  pub grammar_found : (f : Flavour) → number ≡ grammar_number f → IsOnly (IsGrammar number) (Ok f)
+  grammar_found f e = (grammar e, λ o a. only o a)
     where
       only : (o : Result Flavour CallFault) → IsGrammar number o → Ok f ≡ o
       only o (grammar {f = g} k) = ap Ok (one_grammar f g (sym e ∙ k))
       only o (no_grammar more) = absurd (let small = grammar_small f in omega (arith, e, small, more))
 
-  grammar_missing : 2 < number → IsOutcomeOf memory (IsGrammar number) (Err NoGrammar)
-  grammar_missing more = record { is = inr (no_grammar more); only = λ o a. inr (only o a) }
+  pub grammar_missing : 2 < number → IsOnly (IsGrammar number) (Err NoGrammar)
+  grammar_missing more = (no_grammar more, λ o a. only o a)
     where
       only : (o : Result Flavour CallFault) → IsGrammar number o → Err NoGrammar ≡ o
       only o (grammar {f = g} k) = absurd (let small = grammar_small g in omega (arith, k, small, more))
@@ -59,15 +61,15 @@ subject_small Package = omega arith
 subject_small Reference = omega arith
 
 module _ (number : ℕ) where
-  subject_found : (s : Subject) → number ≡ subject_number s → IsOutcomeOf memory (IsSubject number) (Ok s)
-  subject_found s e = record { is = inr (subject e); only = λ o a. inr (only o a) }
+  pub subject_found : (s : Subject) → number ≡ subject_number s → IsOnly (IsSubject number) (Ok s)
+  subject_found s e = (subject e, λ o a. only o a)
     where
       only : (o : Result Subject CallFault) → IsSubject number o → Ok s ≡ o
       only o (subject {s = t} k) = ap Ok (one_subject s t (sym e ∙ k))
       only o (no_subject more) = absurd (let small = subject_small s in omega (arith, e, small, more))
 
-  subject_missing : 1 < number → IsOutcomeOf memory (IsSubject number) (Err NoGrammar)
-  subject_missing more = record { is = inr (no_subject more); only = λ o a. inr (only o a) }
+  pub subject_missing : 1 < number → IsOnly (IsSubject number) (Err NoGrammar)
+  subject_missing more = (no_subject more, λ o a. only o a)
     where
       only : (o : Result Subject CallFault) → IsSubject number o → Err NoGrammar ≡ o
       only o (subject {s = t} k) = absurd (let small = subject_small t in omega (arith, k, small, more))
@@ -76,23 +78,59 @@ module _ (number : ℕ) where
 -- ---- texts
 
 module _ (bytes : List ℕ) where
-  text_found : IsUtf8 bytes → IsOutcomeOf memory (IsUtf8Text bytes) (Ok bytes)
-  text_found h = record { is = inr (text h); only = λ o a. inr (only o a) }
+  pub text_found : IsUtf8 bytes → IsOnly (IsUtf8Text bytes) (Ok bytes)
+  text_found h = (text h, λ o a. only o a)
     where
       only : (o : Result (List ℕ) CallFault) → IsUtf8Text bytes o → Ok bytes ≡ o
       only o (text k) = refl
       only o (no_text never) = absurd (never h)
 
-  text_missing : (IsUtf8 bytes → ⊥) → IsOutcomeOf memory (IsUtf8Text bytes) (Err NotUtf8)
-  text_missing never = record { is = inr (no_text never); only = λ o a. inr (only o a) }
+  pub text_missing : (IsUtf8 bytes → ⊥) → IsOnly (IsUtf8Text bytes) (Err NotUtf8)
+  text_missing never = (no_text never, λ o a. only o a)
     where
       only : (o : Result (List ℕ) CallFault) → IsUtf8Text bytes o → Err NotUtf8 ≡ o
       only o (text k) = absurd (never k)
       only o (no_text other) = refl
 
--- the text of the bytes
-abbrev pub IsRead : List ℕ → List ℕ → Type 0
-IsRead bytes t = (t ≡ bytes) × IsUtf8 bytes
+-- ---- given an argument
+
+-- the outcome of a `?`
+pub exit : {E Y : Type 0} (value : E → Y) (r : Result E Problem) (p : Problem) → IsErrAnd r (λ e. e ≡ p) → call_outcome value r ≡ Err (call_fault p)
+exit value (Ok x) p is = absurd is
+exit value (Err e) p is = ap (λ (q : Problem). Err (call_fault q)) is
+
+only_outcome : {X : Type 0} (Argument : Result X CallFault → Type 0) (o : Result X CallFault) → IsOnly Argument o → IsOutcomeOf memory Argument o
+only_outcome Argument o h = record { is = inr h.0; only = λ p a. inr (h.1 p a) }
+
+module _ {A Y : Type 0} (Argument : Result A CallFault → Type 0) (Asked : A → Result Y CallFault → Type 0) where
+  only_value : (x : A) → IsOnly Argument (Ok x) → (o : Result Y CallFault) → IsOnly (Asked x) o → IsOnly (Given Argument Asked) o
+  only_value x h o k = (valid h.0 k.0, λ p a. only p a)
+    where
+      only : (p : Result Y CallFault) → Given Argument Asked p → o ≡ p
+      only p (valid {x = y} w a) = k.1 p (subst (λ (z : A). Asked z p) (sym (same_value x y (h.1 (Ok y) w))) a)
+      only p (invalid {fault = fault} w) = absurd (value_no_fault x fault (h.1 (Err fault) w))
+
+  only_fault : (fault : CallFault) → IsOnly Argument (Err fault) → IsOnly (Given Argument Asked) (Err fault)
+  only_fault fault h = (invalid h.0, λ p a. only p a)
+    where
+      only : (p : Result Y CallFault) → Given Argument Asked p → Err fault ≡ p
+      only p (valid {x = x} w a) = absurd (fault_no_value x fault (h.1 (Ok x) w))
+      only p (invalid {fault = other} w) = fault_as_fault fault other (same_fault fault other (h.1 (Err other) w))
+
+module _ {A E Y : Type 0} (Argument : Result A CallFault → Type 0) (Asked : A → Result Y CallFault → Type 0) (value : E → Y) (r : Result E Problem) where
+  -- it is invalid
+  pub without : (p : Problem) → IsOnly Argument (Err (call_fault p)) → IsErrAnd r (λ e. e ≡ p) → IsCallAnswer (Given Argument Asked) value r
+  without p h is = subst (IsOutcomeOf memory (Given Argument Asked)) (sym (exit value r p is)) (by_fault memory Argument Asked (call_fault p) (only_outcome Argument (Err (call_fault p)) h))
+
+  pub argument_without : (p : Problem) → IsOnly Argument (Err (call_fault p)) → IsErrAnd r (λ e. e ≡ p) → IsArgument (Given Argument Asked) value r
+  argument_without p h is = subst (IsOnly (Given Argument Asked)) (sym (exit value r p is)) (only_fault Argument Asked (call_fault p) h)
+
+  -- it is valid
+  pub within : (x : A) → IsOnly Argument (Ok x) → IsCallAnswer (Asked x) value r → IsCallAnswer (Given Argument Asked) value r
+  within x h k = by_value memory Argument Asked x (only_outcome Argument (Ok x) h) (call_outcome value r) k
+
+  pub argument_within : (x : A) → IsOnly Argument (Ok x) → IsArgument (Asked x) value r → IsArgument (Given Argument Asked) value r
+  argument_within x h k = only_value Argument Asked x h (call_outcome value r) k
 
 -- ---- questions about texts
 
@@ -110,95 +148,83 @@ called_outcome_of {X = X} Asked o h = record { is = is h.is; only = λ p a. only
     only : (p : Result X CallFault) → Called Asked p → (called_outcome o ≡ Err memory) ⊎ (called_outcome o ≡ p)
     only p (called {outcome = q} a) = same q (h.only q a)
 
--- the outcome of a `?`
-pub exit : {E Y : Type 0} (value : E → Y) (r : Result E Problem) (p : Problem) → IsErrAnd r (λ e. e ≡ p) → call_outcome value r ≡ Err (call_fault p)
-exit value (Ok x) p is = absurd is
-exit value (Err e) p is = ap (λ (q : Problem). Err (call_fault q)) is
+module _ {E Y : Type 0} (Asked : Result Y Fault → Type 0) (value : E → Y) (r : Result E Problem) where
+  pub by_answer : (o : Result Y Fault) → IsOutcomeOf OutOfMemory Asked o → call_outcome value r ≡ called_outcome o → IsCallAnswer (Called Asked) value r
+  by_answer o h e = subst (IsOutcomeOf memory (Called Asked)) (sym e) (called_outcome_of Asked o h)
 
-module _ {E Y : Type 0} (value : E → Y) where
-  -- ---- after a subject
+  -- the question has no result
+  pub by_problem : (why : Unanswered) → IsOutcomeOf OutOfMemory Asked (Err (fault_of why)) → (p : Problem) → IsErrAnd r (λ e. e ≡ p) → p ≡ problem.Unanswered why → IsCallAnswer (Called Asked) value r
+  by_problem why h p is e = by_answer (Err (fault_of why)) h (exit value r p is ∙ ap (λ (q : Problem). Err (call_fault q)) e)
 
-  module _ (number : ℕ) (Asked : Subject → Result Y CallFault → Type 0) where
-    pub by_subject : (s : Subject) → number ≡ subject_number s → (r : Result E Problem) → IsCallAnswer (Asked s) value r → IsCallAnswer (Given (IsSubject number) Asked) value r
-    by_subject s e r h = by_value memory (IsSubject number) Asked s (subject_found number s e) (call_outcome value r) h
+  -- memory ran out before the result
+  pub by_memory : (p : Problem) → IsErrAnd r (λ e. e ≡ p) → p ≡ problem.Unanswered unanswered.OutOfMemory → IsCallAnswer (Called Asked) value r
+  by_memory p is e = by_problem unanswered.OutOfMemory (out_of_memory OutOfMemory Asked) p is e
 
-    pub by_no_subject : (r : Result E Problem) (p : Problem) → IsErrAnd r (λ e. e ≡ p) → (p ≡ problem.NoGrammar) × (1 < number) → IsCallAnswer (Given (IsSubject number) Asked) value r
-    by_no_subject r p is h = subst (IsOutcomeOf memory (Given (IsSubject number) Asked)) (sym (exit value r p is ∙ ap (λ (q : Problem). Err (call_fault q)) h.0)) (by_fault memory (IsSubject number) Asked NoGrammar (subject_missing number h.1))
+  -- the result is made from that of the question
+  pub asked : (P : Unanswered → Problem → Type 0) (found : Result E Unanswered) → IsAnswer Asked value found → MatchResult found (λ v. r ≡ Ok v) (λ e. IsErrAnd r (P e))
+      → ((e : Unanswered) (p : Problem) → P e p → p ≡ problem.Unanswered e) → IsCallAnswer (Called Asked) value r
+  asked P (Ok v) h made gives = by_answer (Ok (value v)) h (ap (call_outcome value) made)
+  asked P (Err why) h made gives =
+      let p = err_from_is_err_and r made in
+      by_answer (Err (fault_of why)) h (ap (call_outcome value) p.1 ∙ ap (λ (q : Problem). Err (call_fault q)) (gives why p.0 p.2))
 
-  -- ---- after a grammar
-
-  module _ (number : ℕ) (Asked : Flavour → Result Y CallFault → Type 0) where
-    pub by_grammar : (f : Flavour) → number ≡ grammar_number f → (r : Result E Problem) → IsCallAnswer (Asked f) value r → IsCallAnswer (Given (IsGrammar number) Asked) value r
-    by_grammar f e r h = by_value memory (IsGrammar number) Asked f (grammar_found number f e) (call_outcome value r) h
-
-    pub by_no_grammar : (r : Result E Problem) (p : Problem) → IsErrAnd r (λ e. e ≡ p) → (p ≡ problem.NoGrammar) × (2 < number) → IsCallAnswer (Given (IsGrammar number) Asked) value r
-    by_no_grammar r p is h = subst (IsOutcomeOf memory (Given (IsGrammar number) Asked)) (sym (exit value r p is ∙ ap (λ (q : Problem). Err (call_fault q)) h.0)) (by_fault memory (IsGrammar number) Asked NoGrammar (grammar_missing number h.1))
-
-  -- ---- after a text
-
-  module _ (bytes : List ℕ) (Asked : List ℕ → Result Y CallFault → Type 0) where
-    pub by_text : (t : List ℕ) → IsRead bytes t → (r : Result E Problem) → IsCallAnswer (Asked t) value r → IsCallAnswer (Given (IsUtf8Text bytes) Asked) value r
-    by_text t h r k = by_value memory (IsUtf8Text bytes) Asked bytes (text_found bytes h.1) (call_outcome value r) (subst (λ (u : List ℕ). IsOutcomeOf memory (Asked u) (call_outcome value r)) h.0 k)
-
-    pub by_no_text : (r : Result E Problem) (p : Problem) → IsErrAnd r (λ e. e ≡ p) → (p ≡ problem.NotUtf8) × (IsUtf8 bytes → ⊥) → IsCallAnswer (Given (IsUtf8Text bytes) Asked) value r
-    by_no_text r p is h = subst (IsOutcomeOf memory (Given (IsUtf8Text bytes) Asked)) (sym (exit value r p is ∙ ap (λ (q : Problem). Err (call_fault q)) h.0)) (by_fault memory (IsUtf8Text bytes) Asked NotUtf8 (text_missing bytes h.1))
-
-  -- ---- the question about texts
-
-  module _ (Asked : Result Y Fault → Type 0) where
-    pub by_answer : (o : Result Y Fault) → IsOutcomeOf OutOfMemory Asked o → (r : Result E Problem) → call_outcome value r ≡ called_outcome o → IsCallAnswer (Called Asked) value r
-    by_answer o h r e = subst (IsOutcomeOf memory (Called Asked)) (sym e) (called_outcome_of Asked o h)
-
-    -- the question has no result
-    pub by_problem : (why : Unanswered) → IsOutcomeOf OutOfMemory Asked (Err (fault_of why)) → (r : Result E Problem) (p : Problem) → IsErrAnd r (λ e. e ≡ p) → p ≡ problem.Unanswered why
-        → IsCallAnswer (Called Asked) value r
-    by_problem why h r p is e = by_answer (Err (fault_of why)) h r (exit value r p is ∙ ap (λ (q : Problem). Err (call_fault q)) e)
-
-    -- memory ran out before the result
-    pub by_memory : (r : Result E Problem) (p : Problem) → IsErrAnd r (λ e. e ≡ p) → p ≡ problem.Unanswered unanswered.OutOfMemory → IsCallAnswer (Called Asked) value r
-    by_memory r p is e = by_problem unanswered.OutOfMemory (out_of_memory OutOfMemory Asked) r p is e
+  -- of a question that fails only out of memory
+  pub asked_for : (P : AllocError → Problem → Type 0) (found : Result E AllocError) → IfOk found (λ v. IsOutcomeOf OutOfMemory Asked (Ok (value v)))
+      → MatchResult found (λ v. r ≡ Ok v) (λ e. IsErrAnd r (P e)) → ((e : AllocError) (p : Problem) → P e p → p ≡ problem.Unanswered unanswered.OutOfMemory) → IsCallAnswer (Called Asked) value r
+  asked_for P (Ok v) h made gives = by_answer (Ok (value v)) h (ap (call_outcome value) made)
+  asked_for P (Err e) h made gives =
+      let p = err_from_is_err_and r made in
+      by_answer (Err OutOfMemory) (out_of_memory OutOfMemory Asked) (ap (call_outcome value) p.1 ∙ ap (λ (q : Problem). Err (call_fault q)) (gives e p.0 p.2))
 
 -- ---- questions that may have several outcomes
 
-module _ {E Y : Type 0} (value : E → Y) where
-  module _ (number : ℕ) (Asked : Flavour → Result Y CallFault → Type 0) where
-    pub one_by_grammar : (f : Flavour) → number ≡ grammar_number f → (r : Result E Problem) → IsOneCallAnswer (Asked f) value r → IsOneCallAnswer (Given (IsGrammar number) Asked) value r
-    one_by_grammar f e r (inl none) = inl none
-    one_by_grammar f e r (inr a) = inr (valid (grammar e) a)
+module _ {A E Y : Type 0} (Argument : Result A CallFault → Type 0) (Asked : A → Result Y CallFault → Type 0) (value : E → Y) (r : Result E Problem) where
+  pub one_without : (p : Problem) → IsOnly Argument (Err (call_fault p)) → IsErrAnd r (λ e. e ≡ p) → IsOneCallAnswer (Given Argument Asked) value r
+  one_without p h is = inr (subst (Given Argument Asked) (sym (exit value r p is)) (invalid h.0))
 
-    pub one_by_no_grammar : (r : Result E Problem) (p : Problem) → IsErrAnd r (λ e. e ≡ p) → (p ≡ problem.NoGrammar) × (2 < number) → IsOneCallAnswer (Given (IsGrammar number) Asked) value r
-    one_by_no_grammar r p is h = inr (subst (Given (IsGrammar number) Asked) (sym (exit value r p is ∙ ap (λ (q : Problem). Err (call_fault q)) h.0)) (invalid (no_grammar h.1)))
+  pub one_within : (x : A) → IsOnly Argument (Ok x) → IsOneCallAnswer (Asked x) value r → IsOneCallAnswer (Given Argument Asked) value r
+  one_within x h (inl none) = inl none
+  one_within x h (inr a) = inr (valid h.0 a)
 
-  module _ (bytes : List ℕ) (Asked : List ℕ → Result Y CallFault → Type 0) where
-    pub one_by_text : (t : List ℕ) → IsRead bytes t → (r : Result E Problem) → IsOneCallAnswer (Asked t) value r → IsOneCallAnswer (Given (IsUtf8Text bytes) Asked) value r
-    one_by_text t h r (inl none) = inl none
-    one_by_text t h r (inr a) = inr (valid (text h.1) (subst (λ (u : List ℕ). Asked u (call_outcome value r)) h.0 a))
+module _ {E Y : Type 0} (Asked : Result Y Fault → Type 0) (value : E → Y) (r : Result E Problem) where
+  pub one_asked : (P : Unanswered → Problem → Type 0) (found : Result E Unanswered) → (outcome_of value found ≡ Err OutOfMemory) ⊎ Asked (outcome_of value found)
+      → MatchResult found (λ v. r ≡ Ok v) (λ e. IsErrAnd r (P e)) → ((e : Unanswered) (p : Problem) → P e p → p ≡ problem.Unanswered e) → IsOneCallAnswer (Called Asked) value r
+  one_asked P found h made gives = answered_by h
+    where
+      is : (found : Result E Unanswered) → MatchResult found (λ v. r ≡ Ok v) (λ e. IsErrAnd r (P e)) → call_outcome value r ≡ called_outcome (outcome_of value found)
+      is (Ok v) made = ap (call_outcome value) made
+      is (Err why) made =
+          let p = err_from_is_err_and r made in ap (call_outcome value) p.1 ∙ ap (λ (q : Problem). Err (call_fault q)) (gives why p.0 p.2)
 
-    pub one_by_no_text : (r : Result E Problem) (p : Problem) → IsErrAnd r (λ e. e ≡ p) → (p ≡ problem.NotUtf8) × (IsUtf8 bytes → ⊥) → IsOneCallAnswer (Given (IsUtf8Text bytes) Asked) value r
-    one_by_no_text r p is h = inr (subst (Given (IsUtf8Text bytes) Asked) (sym (exit value r p is ∙ ap (λ (q : Problem). Err (call_fault q)) h.0)) (invalid (no_text h.1)))
+      answered_by : (outcome_of value found ≡ Err OutOfMemory) ⊎ Asked (outcome_of value found) → IsOneCallAnswer (Called Asked) value r
+      answered_by (inl none) = inl (is found made ∙ ap called_outcome none)
+      answered_by (inr a) = inr (subst (Called Asked) (sym (is found made)) (called a))
 
-  module _ (Asked : Result Y Fault → Type 0) where
-    pub one_by_answer : (o : Result Y Fault) → (o ≡ Err OutOfMemory) ⊎ Asked o → (r : Result E Problem) → call_outcome value r ≡ called_outcome o → IsOneCallAnswer (Called Asked) value r
-    one_by_answer o (inl none) r e = inl (e ∙ ap called_outcome none)
-    one_by_answer o (inr a) r e = inr (subst (Called Asked) (sym e) (called a))
-
-    pub one_by_problem : (why : Unanswered) → (o : Result Y Fault) → o ≡ Err (fault_of why) → (o ≡ Err OutOfMemory) ⊎ Asked o → (r : Result E Problem) (p : Problem) → IsErrAnd r (λ e. e ≡ p) → p ≡ problem.Unanswered why
-        → IsOneCallAnswer (Called Asked) value r
-    one_by_problem why o k h r p is e = one_by_answer o h r (exit value r p is ∙ ap (λ (q : Problem). Err (call_fault q)) e ∙ ap called_outcome (sym k))
-
-  -- memory ran out
-  pub one_by_memory : (Asked : Result Y CallFault → Type 0) (r : Result E Problem) (p : Problem) → IsErrAnd r (λ e. e ≡ p) → p ≡ problem.Unanswered unanswered.OutOfMemory → IsOneCallAnswer Asked value r
-  one_by_memory Asked r p is e = inl (exit value r p is ∙ ap (λ (q : Problem). Err (call_fault q)) e)
+  pub one_asked_for : (P : AllocError → Problem → Type 0) (found : Result E AllocError) → IfOk found (λ v. Asked (Ok (value v)))
+      → MatchResult found (λ v. r ≡ Ok v) (λ e. IsErrAnd r (P e)) → ((e : AllocError) (p : Problem) → P e p → p ≡ problem.Unanswered unanswered.OutOfMemory) → IsOneCallAnswer (Called Asked) value r
+  one_asked_for P (Ok v) h made gives = inr (subst (Called Asked) (ap (λ (x : Result E Problem). call_outcome value x) (sym made)) (called h))
+  one_asked_for P (Err e) h made gives = let p = err_from_is_err_and r made in inl (ap (call_outcome value) p.1 ∙ ap (λ (q : Problem). Err (call_fault q)) (gives e p.0 p.2))
 
 -- ---- faults
 
--- the fault of a text, or that it has none, which has no other
-pub fault_found : {T : Type 0} (Asked : T → Type 0) (answer : T) → Asked answer → ((other : T) → Asked other → answer ≡ other)
-    → IsOutcomeOf OutOfMemory (λ (outcome : Result T Fault). (t : T) × Asked t × (outcome ≡ Ok t)) (Ok answer)
-fault_found Asked answer h only = record { is = inr (answer, h, refl); only = λ o a. inr (ap Ok (only a.0 a.1) ∙ sym a.2) }
+-- what is found of a text, which has no other
+pub only_found : {T E F : Type 0} (Found : T → Type 0) (value : E → T) (found : Result E F) → IfOk found (λ v. Found (value v)) → IfOk found (λ v. (t : T) → Found t → value v ≡ t)
+    → IfOk found (λ v. IsOutcomeOf OutOfMemory (λ (outcome : Result T Fault). (t : T) × Found t × (outcome ≡ Ok t)) (Ok (value v)))
+only_found Found value (Ok v) h one = record { is = inr (value v, h, refl); only = λ o a. inr (ap Ok (one a.0 a.1) ∙ sym a.2) }
+only_found Found value (Err e) h one = tt
 
--- ---- places
+-- a text stops being a version at one place
+pub one_place : (bytes : List ℕ) {F : Type 0} (found : Result ℕ F) → IfOk found (IsErrorPlace IsVersionText bytes) → IfOk found (λ m. (n : ℕ) → IsErrorPlace IsVersionText bytes n → m ≡ n)
+one_place bytes (Ok m) h = λ n k. omega (arith, h.longest n k.boundary k.viable, k.longest m h.boundary h.viable)
+one_place bytes (Err e) h = tt
 
--- no text stops being a version at two places
-pub place_found : (t : List ℕ) (place : ℕ) → IsErrorPlace IsVersionText t place → IsOutcomeOf OutOfMemory (λ outcome. (p : ℕ) × IsErrorPlace IsVersionText t p × (outcome ≡ Ok p)) (Ok place)
-place_found t place h = record { is = inr (place, h, refl); only = λ o a. inr (ap Ok (omega (arith, h.longest a.0 a.1.boundary a.1.viable, a.1.longest place h.boundary h.viable)) ∙ sym a.2) }
+-- the value that is asked for
+pub answered_for : {T E F : Type 0} (t : T) (value : E → T) (found : Result E F) → IfOk found (λ v. value v ≡ t) → IfOk found (λ v. IsOutcomeOf OutOfMemory (Is t) (Ok (value v)))
+answered_for t value (Ok v) h = answered OutOfMemory (value v) t h
+answered_for t value (Err e) h = tt
+
+-- one of those that are found
+pub one_found : {T E F : Type 0} (Found : T → Type 0) (value : E → T) (found : Result E F) → IfOk found (λ v. Found (value v))
+    → IfOk found (λ v. (t : T) × Found t × (as_value {P = Fault} (value v) ≡ as_value t))
+one_found Found value (Ok v) h = (value v, h, refl)
+one_found Found value (Err e) h = tt

@@ -1,6 +1,4 @@
 pub mod Asking
+pub mod HandleValues
 pub mod Replies
-pub mod RequirementHandleValues
 pub mod Values
-pub mod VersionHandleValues
-pub mod VersionListHandleValues

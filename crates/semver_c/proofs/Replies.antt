@@ -12,9 +12,10 @@ use Rattle.answers.specs.Sorting.{AreOnlySortedPlaces, AreSortedPlaces, SortedLi
 use Rattle.answers.specs.declared.asking.Problem.TheVariants as unanswered
 use Rattle.answers.specs.declared.questions.End.{End}
 use Rattle.answers.specs.declared.sorting.Order.TheVariants.{Ascending}
-use Rattle.semver_c.specs.Codes.{IsCode, IsOneReply, IsPlaceReply, IsReply, IsReported, Reports, code_of, no_memory, no_place, place_after}
+use Rattle.semver_c.specs.Codes.{IsCode, IsOneReply, IsPlaceReply, IsReply, IsReported, Reports, always_yes, code_of, no_memory, no_place, or_message, place_after}
 use Rattle.semver_c.specs.Arguments.{CallFault, IsCallAnswer, IsOneCallAnswer, memory, call_outcome, problem_place}
-use Rattle.semver_c.specs.Held.{IsListBest}
+use Rattle.semver_c.specs.Held.{IsHeldReport, IsListBest, is_held, out_of_memory}
+use Rattle.semver_c.specs.declared.handles.Held.{Held}
 use Rattle.semver_c.specs.declared.arguments.Problem.{Problem}
 use Rattle.semver_c.specs.declared.arguments.Problem.TheVariants as problem
 use Rattle.semver_c.specs.declared.codes.Code.{Code}
@@ -82,6 +83,14 @@ module _ {E X : Type 0} (Asked : Result X CallFault → Type 0) (value : E → X
             → ((code ≡ no_memory) × (new ≡ old)) ⊎ (new ≡ place_after given o old)
         only o (inl none) = inl (none_placed none)
         only o (inr is) = inr (e ∙ ap (λ (p : Result X CallFault). place_after given p old) is)
+
+-- ---- what handles hold
+
+-- the text of a value that is held is placed
+pub placed_text : {value : Held} {text : List ℕ} {old new : Option Held} {before after : List ℕ} {needed : ℕ} {code : ℤ} → IsHeldReport value text old new before after needed code
+    → {X : Type 0} (shown : X → List ℕ) (x : X) → text ≡ shown x → IsReported always_yes (or_message shown) (Ok x) before after needed code
+placed_text {text = text} (is_held n t c) shown x e = record { items = text; placed_is = t; reports = inr (c, e) }
+placed_text (out_of_memory message n t c) shown x e = record { items = message; placed_is = t; reports = inl c }
 
 -- ---- questions that may have several outcomes
 

@@ -12,11 +12,13 @@ use Rattle.semver_c.specs.declared.arguments.Subject.TheVariants.{Package, Refer
 
 -- ---- outcomes
 
--- why a call has no result: the question about its texts has none, no grammar or no subject has the number, or bytes aren't valid UTF-8
+-- why a call has no result: the question about its texts has none, no grammar or no subject has the number, bytes aren't valid UTF-8, or
+-- a handle holds no value of the kind that is asked about
 pub data CallFault : Type 0 where
   Unanswered : Fault → CallFault
   NoGrammar : CallFault
   NotUtf8 : CallFault
+  NoValue : CallFault
 
 abbrev pub memory : CallFault
 memory = Unanswered OutOfMemory
@@ -26,6 +28,7 @@ abbrev pub call_fault : Problem → CallFault
 call_fault (problem.Unanswered why) = Unanswered (fault_of why)
 call_fault problem.NoGrammar = NoGrammar
 call_fault problem.NotUtf8 = NotUtf8
+call_fault problem.NoValue = NoValue
 
 -- the outcome of a result whose value means this
 abbrev pub call_outcome : {E X : Type 0} → (E → X) → Result E Problem → Result X CallFault
@@ -35,6 +38,17 @@ call_outcome value (Err p) = Err (call_fault p)
 -- the result is the outcome of the question, which has no other, or out of memory
 abbrev pub IsCallAnswer : {E X : Type 0} → (Result X CallFault → Type 0) → (E → X) → Result E Problem → Type 0
 IsCallAnswer Asked value result = IsOutcomeOf memory Asked (call_outcome value result)
+
+-- the outcome of an argument, which has no other
+abbrev pub IsOnly : {X : Type 0} → (Result X CallFault → Type 0) → Result X CallFault → Type 0
+IsOnly {X = X} Argument outcome = Argument outcome × ((other : Result X CallFault) → Argument other → outcome ≡ other)
+
+abbrev pub IsArgument : {E X : Type 0} → (Result X CallFault → Type 0) → (E → X) → Result E Problem → Type 0
+IsArgument Argument value result = IsOnly Argument (call_outcome value result)
+
+-- the result has this outcome, or it is out of memory
+abbrev pub IsCallOutcome : {E X : Type 0} → Result X CallFault → (E → X) → Result E Problem → Type 0
+IsCallOutcome outcome value result = (call_outcome value result ≡ Err memory) ⊎ (call_outcome value result ≡ outcome)
 
 -- the result is an outcome of the question, or out of memory
 abbrev pub IsOneCallAnswer : {E X : Type 0} → (Result X CallFault → Type 0) → (E → X) → Result E Problem → Type 0
@@ -55,6 +69,7 @@ abbrev pub call_message : CallFault → List ℕ
 call_message (Unanswered fault) = fault_message fault
 call_message NoGrammar = codes "No grammar has this number."
 call_message NotUtf8 = codes "The text isn't valid UTF-8."
+call_message NoValue = codes "The handle holds no value of this kind."
 
 -- the place of the argument that is invalid, among those of its kind; without one, the other place
 abbrev pub fault_place : CallFault → ℕ → ℕ
@@ -62,6 +77,7 @@ fault_place (Unanswered (Invalid kind place failure)) other = place
 fault_place (Unanswered OutOfMemory) other = other
 fault_place NoGrammar other = other
 fault_place NotUtf8 other = other
+fault_place NoValue other = other
 
 -- the place of a result's invalid argument; without one, the other place
 abbrev pub problem_place : {E : Type 0} → Result E Problem → ℕ → ℕ

@@ -10,7 +10,7 @@ use Rattle.answers.specs.declared.asking.Answer.TheVariants.{Value, Tag}
 use Rattle.answers.specs.declared.asking.Kind.{Kind}
 use Rattle.answers.specs.declared.asking.Kind.TheVariants as kind
 use Rattle.answers.specs.declared.questions.Best.{Best}
-use Rattle.semver_c.specs.Arguments.{CallFault, NoGrammar, NotUtf8, Unanswered, call_message, fault_place}
+use Rattle.semver_c.specs.Arguments.{CallFault, NoGrammar, NoValue, NotUtf8, Unanswered, call_message, fault_place}
 use Rattle.semver_c.specs.declared.codes.Code.{Code}
 use Rattle.semver_c.specs.declared.codes.Code.TheVariants as code
 use Rattle.semver_c.specs.declared.questions.Numbers.{Numbers}
@@ -30,6 +30,7 @@ number_of code.InvalidVersion = negsuc 2
 number_of code.NotUtf8 = negsuc 3
 number_of code.NoGrammar = negsuc 4
 number_of code.NoMemory = negsuc 5
+number_of code.NoValue = negsuc 6
 
 abbrev pub yes : ℤ
 yes = number_of code.Yes
@@ -52,6 +53,7 @@ fault_code (Unanswered (Invalid k place failure)) = kind_code k
 fault_code (Unanswered OutOfMemory) = code.NoMemory
 fault_code NoGrammar = code.NoGrammar
 fault_code NotUtf8 = code.NotUtf8
+fault_code NoValue = code.NoValue
 
 -- ---- the codes of values
 

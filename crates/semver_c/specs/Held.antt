@@ -1,77 +1,84 @@
--- Questions about values that are held across calls.
+-- Questions about values that handles hold.
 use Rattle.std.specs.Prelude.{◌≡◌, ◌⊎◌, ◌↔◌, IsTrue, ℕ, ℤ, List, Bool, Option, Some, None, Result, Ok, Err}
-use Rattle.std.specs.declared.cmp.Ordering.{Ordering}
 use Rattle.semver_base.specs.declared.range.PreRelease.{PreRelease}
 use Rattle.semver_base.specs.declared.version.Version.{Version}
-use Rattle.semver_req.specs.Requirement.{Requirement, inner_means_with, inner_overlap}
+use Rattle.semver_req.specs.Requirement.{Requirement, inner_means_with}
 use Rattle.semver_req.specs.declared.range_set_or_tag.RangeSetOrTag.{RangeSetOrTag}
 use Rattle.semver_req.specs.declared.range_set_or_tag.RangeSetOrTag.TheVariants as inner
 use Rattle.semver_req.specs.Resolve.{IsBestMatch, IsOnlyMatch}
-use Rattle.deno_semver.specs.declared.package.values.PackageReq.{PackageReq}
-use Rattle.answers.specs.Asking.{Is}
-use Rattle.answers.specs.Filtering.{better_line, line_passes, list_matches}
-use Rattle.answers.specs.Questions.{match_of}
-use Rattle.answers.specs.Sorting.{SortedLines}
+use Rattle.answers.specs.Filtering.{better_line, line_passes}
 use Rattle.answers.specs.declared.questions.End.{End}
-use Rattle.answers.specs.declared.sorting.Order.TheVariants.{Ascending}
-use Rattle.semver_c.specs.declared.handles.version_list.VersionList.{VersionList}
-use Rattle.semver_c.specs.Arguments.{CallFault, pre_release_by}
+use Rattle.semver_c.specs.declared.handles.Held.{Held}
+use Rattle.semver_c.specs.declared.handles.Held.TheVariants as held
+use Rattle.semver_c.specs.Arguments.{CallFault, NoValue, pre_release_by}
 use Rattle.semver_c.specs.declared.codes.Code.{Code}
 use Rattle.semver_c.specs.declared.codes.Code.TheVariants as code
-use Rattle.semver_c.specs.Codes.{IsReply, always_yes, bool_code, fault_code, filter_code, filter_numbers, match_code, no_memory, number_of, or_nothing, order_code, place_code, place_or, yes}
+use Rattle.semver_c.specs.Codes.{IsPlaced, bool_code, fault_code, no_memory, number_of, place_code, place_or, yes}
 
--- the value of the outcome is held, with the code 1; without one nothing is held, and the code is that of the problem
-abbrev pub HoldsOutcome : {X : Type 0} → Result X CallFault → Option X → ℤ → Type 0
-HoldsOutcome (Ok x) held code = (held ≡ Some x) × (code ≡ yes)
-HoldsOutcome (Err fault) held code = (held ≡ None) × (code ≡ number_of (fault_code fault))
+-- ---- what is held; none in an empty handle, or in one that holds another kind of value
 
--- what is held is the question's outcome, which has no other; or memory ran out, and nothing is held
-pub record IsHeld {X : Type 0} (Asked : Result X CallFault → Type 0) (held : Option X) (code : ℤ) : Type 0 where
-  pub is : ((code ≡ no_memory) × (held ≡ None))
-      ⊎ ((outcome : Result X CallFault) × Asked outcome × HoldsOutcome outcome held code)
+abbrev pub range_in : Option Held → Option Requirement
+range_in (Some (held.Range range)) = Some range
+range_in (Some (held.Version version)) = None
+range_in (Some (held.Versions versions)) = None
+range_in None = None
+
+abbrev pub version_in : Option Held → Option Version
+version_in (Some (held.Range range)) = None
+version_in (Some (held.Version version)) = Some version
+version_in (Some (held.Versions versions)) = None
+version_in None = None
+
+abbrev pub versions_in : Option Held → Option (List (Option Version))
+versions_in (Some (held.Range range)) = None
+versions_in (Some (held.Version version)) = None
+versions_in (Some (held.Versions versions)) = Some versions.items
+versions_in None = None
+
+-- ---- reading into a handle
+
+-- what is found of the outcome's value is held, with the code 1; without one the handle stays as it was, and the code is that of the
+-- problem
+abbrev pub HoldsOutcome : {X V : Type 0} → (X → V) → (Option Held → Option V) → Result X CallFault → Option Held → Option Held → ℤ → Type 0
+HoldsOutcome found value_in (Ok x) old new code = (value_in new ≡ Some (found x)) × (code ≡ yes)
+HoldsOutcome found value_in (Err fault) old new code = (new ≡ old) × (code ≡ number_of (fault_code fault))
+
+-- the value is held, and its text is placed, with the code 1; or memory ran out, and the handle stays as it was
+pub data IsHeldReport (value : Held) (text : List ℕ) (old new : Option Held) (before after : List ℕ) (needed : ℕ) (code : ℤ) : Type 0 where
+  is_held : new ≡ Some value → IsPlaced text before after needed → code ≡ yes → IsHeldReport value text old new before after needed code
+  out_of_memory : (message : List ℕ) → new ≡ old → IsPlaced message before after needed → code ≡ no_memory
+      → IsHeldReport value text old new before after needed code
+
+-- what is held is the question's outcome, which has no other; or memory ran out, and the handle stays as it was
+pub record IsHeld {X V : Type 0} (Asked : Result X CallFault → Type 0) (found : X → V) (value_in : Option Held → Option V)
+    (old new : Option Held) (code : ℤ) : Type 0 where
+  pub is : ((code ≡ no_memory) × (new ≡ old))
+      ⊎ ((outcome : Result X CallFault) × Asked outcome × HoldsOutcome found value_in outcome old new code)
   pub only : (outcome : Result X CallFault) → Asked outcome
-      → ((code ≡ no_memory) × (held ≡ None)) ⊎ HoldsOutcome outcome held code
+      → ((code ≡ no_memory) × (new ≡ old)) ⊎ HoldsOutcome found value_in outcome old new code
 
--- the package of this name whose range is held
-abbrev pub package_held : List ℕ → Option Requirement → Option PackageReq
-package_held name (Some req) = Some (record { name = name; version_req = req })
-package_held name None = None
+-- ---- questions about what handles hold
 
--- does a version match a range
-abbrev pub IsHeldMatch : ℕ → Option Requirement → Option Version → ℤ → Type 0
-IsHeldMatch number (Some req) (Some v) code = code ≡ number_of (match_code (match_of (pre_release_by number) req.inner v))
-IsHeldMatch number requirement version code = Unit {0}
+-- the outcome of a question about one value, or about two; without a value that is NO_VALUE
+abbrev pub of_one : {V X : Type 0} → (V → X) → Option V → Result X CallFault
+of_one answer (Some v) = Ok (answer v)
+of_one answer None = Err NoValue
 
--- do two ranges overlap
-abbrev pub IsHeldOverlap : Option Requirement → Option Requirement → ℤ → Type 0
-IsHeldOverlap (Some req) (Some other) code = code ≡ number_of (bool_code (inner_overlap req.inner other.inner))
-IsHeldOverlap one other code = Unit {0}
+abbrev pub of_both : {V W X : Type 0} → (V → W → X) → Option V → Option W → Result X CallFault
+of_both answer (Some v) w = of_one (answer v) w
+of_both answer None w = Err NoValue
 
--- by this order
-abbrev pub IsHeldOrder : {X : Type 0} → (X → X → Ordering) → Option X → Option X → ℤ → Type 0
-IsHeldOrder cmp (Some v) (Some w) code = code ≡ number_of (order_code (cmp v w))
-IsHeldOrder cmp one other code = Unit {0}
+-- the outcomes of a question about one value
+abbrev pub OfHeld : {V X : Type 0} → (V → Result X CallFault → Type 0) → Option V → Result X CallFault → Type 0
+OfHeld Asked (Some v) outcome = Asked v outcome
+OfHeld Asked None outcome = outcome ≡ Err NoValue
 
--- 1 is returned exactly if both mean the same, else 0
+-- 1 is returned exactly if both ranges mean the same, else 0
 abbrev pub IsHeldEqual : Option Requirement → Option Requirement → ℤ → Type 0
-IsHeldEqual (Some req) (Some other) code =
-    (equal : Bool) × (IsTrue equal ↔ (req.inner ≡ other.inner)) × (code ≡ number_of (bool_code equal))
-IsHeldEqual one other code = Unit {0}
-
--- the lines of a list
-abbrev pub list_lines : VersionList → List (Option Version)
-list_lines list = list.lines.items
-
--- the lines of a list that is held
-abbrev pub lines_of : Option VersionList → Option (List (Option Version))
-lines_of (Some list) = Some (list_lines list)
-lines_of None = None
-
--- which of the versions match a range
-abbrev pub IsHeldFilter : ℕ → Option VersionList → Option Requirement → List ℤ → List ℤ → ℕ → ℤ → Type 0
-IsHeldFilter number (Some list) (Some req) old new needed code =
-    IsReply (Is (list_matches (pre_release_by number) req.inner (list_lines list))) filter_code (or_nothing filter_numbers) old new needed code
-IsHeldFilter number list requirement old new needed code = Unit {0}
+IsHeldEqual (Some req) (Some other) returned =
+    (equal : Bool) × (IsTrue equal ↔ (req.inner ≡ other.inner)) × (returned ≡ number_of (bool_code equal))
+IsHeldEqual (Some req) None returned = returned ≡ number_of code.NoValue
+IsHeldEqual None other returned = returned ≡ number_of code.NoValue
 
 -- at this end of the order, the best match among lines: YES and its place, or NO
 pub record IsBestLine (end : End) (test : Version → Bool) (lines : List (Option Version)) (old new : ℕ) (returned : Code) : Type 0 where
@@ -87,14 +94,8 @@ IsListBest end flag (inner.RangeSet set) lines old new returned =
     IsBestLine end (inner_means_with flag (inner.RangeSet set)) lines old new returned
 IsListBest end flag (inner.Tag tag) lines old new returned = (returned ≡ code.Tag) × (new ≡ old)
 
--- which of the versions is the best match
-abbrev pub IsHeldBest : End → ℕ → Option VersionList → Option Requirement → ℕ → ℕ → ℤ → Type 0
-IsHeldBest end number (Some list) (Some req) old new returned =
-    (c : Code) × IsListBest end (pre_release_by number) req.inner (list_lines list) old new c × (returned ≡ number_of c)
-IsHeldBest end number list requirement old new returned = Unit {0}
-
--- in which order the versions stand
-abbrev pub IsHeldSort : Option VersionList → List ℕ → List ℕ → ℕ → ℤ → Type 0
-IsHeldSort (Some list) old new needed returned =
-    IsReply (SortedLines Ascending (list_lines list)) always_yes (or_nothing (λ places. places)) old new needed returned
-IsHeldSort None old new needed returned = Unit {0}
+-- which of the versions is the best match; without a value it is NO_VALUE, and the place is unchanged
+abbrev pub IsHeldBest : End → ℕ → Option (List (Option Version)) → Option Requirement → ℕ → ℕ → Code → Type 0
+IsHeldBest end number (Some lines) (Some req) old new returned = IsListBest end (pre_release_by number) req.inner lines old new returned
+IsHeldBest end number (Some lines) None old new returned = (returned ≡ code.NoValue) × (new ≡ old)
+IsHeldBest end number None req old new returned = (returned ≡ code.NoValue) × (new ≡ old)

@@ -1,5 +1,7 @@
 pub mod Arguments
 pub mod Codes
-pub mod Held
-pub mod Questions
+pub mod Given
 pub mod Handle
+pub mod Held
+pub mod Lent
+pub mod Questions

@@ -26,24 +26,23 @@ use Rattle.answers.specs.declared.asking.Answer.{Answer}
 use Rattle.answers.specs.declared.questions.Best.{Best}
 use Rattle.answers.specs.declared.questions.End.{End}
 use Rattle.answers.specs.declared.sorting.Order.TheVariants.{Ascending}
-use Rattle.semver_c.specs.Arguments.{CallFault, Called, IsGrammar, IsSubject, IsUtf8Text, pre_release_by}
+use Rattle.semver_c.specs.Arguments.{CallFault, Called, IsSubject, IsUtf8Text, pre_release_by}
 use Rattle.semver_c.specs.Codes.{match_code}
+use Rattle.semver_c.specs.Given.{IsWithText, IsWithTexts}
 use Rattle.semver_c.specs.declared.arguments.Subject.{Subject}
 use Rattle.semver_c.specs.declared.arguments.Subject.TheVariants.{Package, Reference}
 use Rattle.semver_c.specs.declared.codes.Code.{Code}
 use Rattle.semver_c.specs.declared.questions.Numbers.{Numbers}
-use Rattle.semver_c.specs.declared.questions.ReadPackage.{ReadPackage}
 
 -- ---- arguments before the question
 
 -- a grammar and a text
 abbrev pub ByOne : {Y : Type 0} → ℕ → List ℕ → (Flavour → List ℕ → Result Y Fault → Type 0) → Result Y CallFault → Type 0
-ByOne number one Asked = Given (IsGrammar number) (λ f. Given (IsUtf8Text one) (λ text. Called (Asked f text)))
+ByOne number one Asked = Given (IsWithText number one) (λ given. Called (Asked given.0 given.1))
 
 -- a grammar and two texts
 abbrev pub ByTwo : {Y : Type 0} → ℕ → List ℕ → List ℕ → (Flavour → List ℕ → List ℕ → Result Y Fault → Type 0) → Result Y CallFault → Type 0
-ByTwo number one other Asked = Given (IsGrammar number)
-    (λ f. Given (IsUtf8Text one) (λ text. Given (IsUtf8Text other) (λ more. Called (Asked f text more))))
+ByTwo number one other Asked = Given (IsWithTexts number one other) (λ given. Called (Asked given.0 given.1.0 given.1.1))
 
 -- a text
 abbrev pub OfText : {Y : Type 0} → List ℕ → (List ℕ → Result Y Fault → Type 0) → Result Y CallFault → Type 0
@@ -128,10 +127,6 @@ IsFaultOf Reference f text = IsReferenceFault text
 abbrev pub WhyBy : ℕ → ℕ → List ℕ → Result (Option (List ℕ)) CallFault → Type 0
 WhyBy what g text = Given (IsSubject what)
     (λ s. ByOne g text (λ f t outcome. (fault : Option (List ℕ)) × IsFaultOf s f t fault × (outcome ≡ Ok fault)))
-
--- the package that was read
-abbrev pub whole_package : ReadPackage → PackageReq
-whole_package read = record { name = read.name; version_req = read.range.value }
 
 -- `semver_reference`
 abbrev pub ReferenceOf : List ℕ → Result (List ℕ) CallFault → Type 0

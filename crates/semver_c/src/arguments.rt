@@ -1,9 +1,10 @@
 //! The arguments of a call: grammars by their numbers, texts by their bytes, and why a call has no result.
 
-ghost use Rattle.std.specs.Prelude.{◌≡◌, ◌<◌, IfOk, IsUtf8, map, MatchResult};
+ghost use Rattle.std.specs.Prelude.{◌≡◌, IfOk, map};
 ghost use Rattle.std.specs.Str.Lines.{lines};
 ghost use Rattle.answers.specs.declared.asking.Problem.TheVariants as unanswered;
-ghost use Rattle.semver_c.specs.Arguments.{call_fault, call_message, fault_place, grammar_number, pre_release_by};
+ghost use Rattle.semver_c.specs.Arguments.{IsArgument, IsGrammar, IsSubject, IsUtf8Text, call_fault, call_message, fault_place, pre_release_by};
+ghost use Rattle.semver_c.specs.Given.{IsWithText, IsWithTexts, text_given, texts_given};
 ghost use Rattle.semver_c.specs.Codes.{fault_code};
 ghost use Rattle.semver_c.specs.declared.arguments.Problem.TheVariants as problem;
 
@@ -22,6 +23,8 @@ pub enum Problem {
     /// No grammar, or no subject, has this number.
     NoGrammar,
     NotUtf8,
+    /// A handle holds no value of the kind that is asked about.
+    NoValue,
 }
 
 impl From<Unanswered> for Problem {
@@ -53,6 +56,7 @@ impl Problem {
             Problem::Unanswered(Unanswered::OutOfMemory) => Code::NoMemory,
             Problem::NoGrammar => Code::NoGrammar,
             Problem::NotUtf8 => Code::NotUtf8,
+            Problem::NoValue => Code::NoValue,
         }
     }
 
@@ -62,8 +66,10 @@ impl Problem {
     {
         match self {
             Problem::Unanswered(Unanswered::Invalid(argument)) => argument.place,
-            Problem::Unanswered(Unanswered::OutOfMemory) | Problem::NoGrammar | Problem::NotUtf8 =>
-                other,
+            Problem::Unanswered(Unanswered::OutOfMemory)
+            | Problem::NoGrammar
+            | Problem::NotUtf8
+            | Problem::NoValue => other,
         }
     }
 
@@ -75,14 +81,14 @@ impl Problem {
             Problem::Unanswered(why) => why.message(),
             Problem::NoGrammar => "No grammar has this number.",
             Problem::NotUtf8 => "The text isn't valid UTF-8.",
+            Problem::NoValue => "The handle holds no value of this kind.",
         }
     }
 }
 
 /// The grammar of this number.
-pub fn flavour(number: u32) -> Result<Flavour, Problem>
-    ensures { MatchResult result (λ flavour. number ≡ grammar_number flavour)
-        (λ error. (error ≡ problem.NoGrammar) × (2 < number)) }
+fn flavour(number: u32) -> Result<Flavour, Problem>
+    ensures { IsArgument (IsGrammar number) (λ flavour. flavour) result }
 {
     match number {
         0 => Ok(Flavour::Npm),
@@ -99,6 +105,17 @@ pub enum Subject {
     Reference,
 }
 
+/// The subject of this number.
+pub fn subject_of(number: u32) -> Result<Subject, Problem>
+    ensures { IsArgument (IsSubject number) (λ subject. subject) result }
+{
+    match number {
+        0 => Ok(Subject::Package),
+        1 => Ok(Subject::Reference),
+        _ => Err(Problem::NoGrammar),
+    }
+}
+
 /// Which pre-releases match: at 0 by npm's rule, at any other number all between the bounds.
 pub fn pre_release(number: u32) -> PreRelease
     ensures { result ≡ pre_release_by number }
@@ -112,13 +129,54 @@ pub fn pre_release(number: u32) -> PreRelease
 
 /// The text of the bytes.
 pub fn text(bytes: &[u8]) -> Result<&str, Problem>
-    ensures { MatchResult result (λ text. (text.now ≡ bytes.now) × IsUtf8 bytes.now)
-        (λ error. (error ≡ problem.NotUtf8) × (IsUtf8 bytes.now → ⊥)) }
+    ensures { IsArgument (IsUtf8Text bytes.now) (λ text. text.now) result }
 {
     match str::from_utf8(bytes) {
         Ok(text) => Ok(text),
         Err(_) => Err(Problem::NotUtf8),
     }
+}
+
+/// A grammar, and a text.
+#[derive(Clone, Copy)]
+pub struct WithText<'a> {
+    pub flavour: Flavour,
+    pub text: &'a str,
+}
+
+/// The grammar of this number, and the text of the bytes.
+pub fn with_text<'a>(grammar: u32, bytes: &'a [u8]) -> Result<WithText<'a>, Problem>
+    ensures { IsArgument (IsWithText grammar bytes.now) text_given result }
+{
+    let flavour = flavour(grammar)?;
+    let text = text(bytes)?;
+    Ok(WithText { flavour, text })
+}
+
+/// A grammar, and two texts.
+#[derive(Clone, Copy)]
+pub struct WithTexts<'a> {
+    pub flavour: Flavour,
+    pub one: &'a str,
+    pub other: &'a str,
+}
+
+/// The grammar of this number, and the texts of the bytes.
+pub fn with_texts<'a>(
+    grammar: u32,
+    one: &'a [u8],
+    other: &'a [u8],
+) -> Result<WithTexts<'a>, Problem>
+    ensures { IsArgument (IsWithTexts grammar one.now other.now) texts_given result }
+{
+    let flavour = flavour(grammar)?;
+    let one = text(one)?;
+    let other = text(other)?;
+    Ok(WithTexts {
+        flavour,
+        one,
+        other,
+    })
 }
 
 /// The lines of a text.

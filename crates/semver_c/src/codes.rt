@@ -22,6 +22,8 @@ pub enum Code {
     NotUtf8,
     NoGrammar,
     NoMemory,
+    /// A handle is empty, or holds another kind of value.
+    NoValue,
 }
 
 impl Code {
@@ -39,6 +41,7 @@ impl Code {
             Code::NotUtf8 => -4,
             Code::NoGrammar => -5,
             Code::NoMemory => -6,
+            Code::NoValue => -7,
         }
     }
 

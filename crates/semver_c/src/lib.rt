@@ -5,19 +5,23 @@
 //! is always stored. A call of several arguments of one kind stores the place of the first that is invalid, counted from 0.
 #![tactic(auto)]
 
-ghost use Rattle.std.specs.Prelude.{◌≡◌, IfSome, IsUtf8, List, None, Some, ℕ, is_some, length};
-ghost use Rattle.semver_c.specs.Handle.{Holds};
+ghost use Rattle.std.specs.Prelude.{◌≡◌, IfSome, IsUtf8, None, ℕ, is_some, length};
 ghost use Rattle.semver_base.specs.Meaning.{release};
 ghost use Rattle.semver_base.specs.Precedence.{precedence_cmp, version_cmp};
 ghost use Rattle.semver_base.specs.VersionText.{version_text};
-ghost use Rattle.semver_req.specs.Requirement.{inner_text, tag_of};
+ghost use Rattle.semver_req.specs.Requirement.{inner_overlap, inner_text, tag_of};
 ghost use Rattle.semver_req.specs.Tag.{is_valid_tag};
 ghost use Rattle.deno_semver.specs.ReqOrder.{inner_cmp};
-ghost use Rattle.answers.specs.Asking.{Is};
+ghost use Rattle.answers.specs.Filtering.{list_matches};
+ghost use Rattle.answers.specs.Questions.{match_of};
+ghost use Rattle.answers.specs.Sorting.{SortedLines};
 ghost use Rattle.answers.specs.declared.questions.End.TheVariants as end;
-ghost use Rattle.semver_c.specs.Codes.{IsCode, IsOneReply, IsPlaceReply, IsPlaced, IsReply, IsUntouched, IsUntouchedWithoutValue, always_yes, as_place, best_code, best_place, bool_code, filter_code, filter_numbers, found_code, found_text, lowest_code, lowest_text, match_code, no_place, no_text, number_of, or_message, or_nothing, order_code, text_code, text_of, three_numbers, unqualified_code, yes};
-ghost use Rattle.semver_c.specs.Held.{IsHeld, IsHeldBest, IsHeldEqual, IsHeldFilter, IsHeldMatch, IsHeldOrder, IsHeldOverlap, IsHeldSort, lines_of, package_held};
+ghost use Rattle.answers.specs.declared.sorting.Order.TheVariants.{Ascending};
+ghost use Rattle.semver_c.specs.Arguments.{pre_release_by};
+ghost use Rattle.semver_c.specs.Codes.{IsCode, IsOneReply, IsPlaceReply, IsPlaced, IsReply, IsReported, IsUntouched, IsUntouchedWithoutValue, always_yes, as_place, best_code, best_place, bool_code, code_of, filter_code, filter_numbers, found_code, found_text, lowest_code, lowest_text, match_code, no_place, no_text, number_of, or_message, or_nothing, order_code, text_code, text_of, three_numbers, unqualified_code, yes};
+ghost use Rattle.semver_c.specs.Held.{IsHeld, IsHeldBest, IsHeldEqual, OfHeld, of_both, of_one, range_in, version_in, versions_in};
 ghost use Rattle.semver_c.specs.Questions.{BestLine, CanonicalBy, CommonBy, CommonOfAll, DependencyBy, DisplayedOf, EquivalentBy, ErrorsBy, ExplainsBy, ExportNameOf, Filters, Fits, LowestBy, MatchesHeld, NameWithVersionOf, NumbersOf, OrdersOf, OutsideBy, OverlapsBy, PackageBy, PackageErrorsBy, PackageOf, RangeBy, RangesBy, ReferenceErrorsOf, ReferenceOf, SortsOf, TagBy, VersionErrorOf, VersionListOf, VersionOf, VersionPartsOf, VersionReferenceOf, WhyBy};
+ghost use Rattle.semver_c.specs.declared.codes.Code.{Code};
 ghost use Rattle.semver_c.specs.declared.codes.Code.TheVariants as code;
 
 mod arguments;
@@ -26,25 +30,25 @@ mod handles;
 mod questions;
 mod reports;
 
-use answers::questions::{End, text_of_version};
-use answers::sorting::{self, Order};
+use answers::questions::End;
 use arguments::{Problem, pre_release};
 use codes::Code;
 use deno_semver::PreRelease;
 use deno_semver::npm::is_valid_npm_tag;
 use deno_semver::package::cmp_version_reqs;
-use handles::{RequirementHandle, VersionHandle, VersionListHandle};
+use handles::{Held, RequirementHandle, VersionHandle, VersionListHandle};
 use questions::{
-    best_held, best_line, canonical_form, common, common_of_all, dependency_of, displayed_version,
-    equivalent_ranges, errors_of, explanation_of, export_name_of, filter, filter_held, fits,
-    is_tag, lowest, match_code, matches_held, name_with_version_of, names_tag, numbers_of,
-    order_of, outside, overlap, package_errors_of, package_of, ranges_of, read_list,
-    read_package_of, read_range, read_version, reference_errors_of, reference_of, sorted_lines,
-    version_error_of, version_parts_of, version_reference_of, why_invalid,
+    best_held, best_line, canonical_form, canonical_held, common, common_of_all, dependency_of,
+    displayed_held, displayed_version, equivalent_ranges, errors_of, explanation_of,
+    export_name_of, filter, filter_held, fits, is_tag, lowest, match_code, matches_held,
+    name_with_version_of, names_tag, numbers_of, order_of, outside, overlap, package_errors_of,
+    package_of, ranges_of, read_list, read_package_of, read_range, read_version,
+    reference_errors_of, reference_of, sorted_held, sorted_lines, version_error_of,
+    version_parts_of, version_reference_of, why_invalid,
 };
 use reports::{
-    put, put_items, put_place, report_best, report_filter, report_lowest, report_places,
-    report_problem, report_text, report_text_or_tag,
+    put, put_items, put_place, report_best, report_filter, report_held, report_lowest,
+    report_places, report_problem, report_text, report_text_or_tag,
 };
 use semver_base::version::release;
 use semver_req::laws::equal_requirements;
@@ -624,7 +628,8 @@ pub extern "C" fn semver_export_name(
     }
 }
 
-/// Parses a range into an empty handle: yes, with its canonical form or the tag.
+/// Parses a range into a handle, and frees what that held: yes, with its canonical form or the tag. For any other code the handle
+/// stays as it was.
 #[unsafe(no_mangle)]
 pub extern "C" fn semver_req_read(
     alloc: Global,
@@ -634,23 +639,21 @@ pub extern "C" fn semver_req_read(
     out: &mut [u8],
     needed: &mut usize,
 ) -> i32
-    requires { handle.old.value ≡ None }
-    ensures held { IsHeld (RangeBy grammar text.now) handle.new.value result }
-    ensures text { IfSome handle.new.value
-        (λ req. IsPlaced (inner_text req.inner) out.old out.new needed.new) }
-    ensures message { (text : List ℕ) × IsPlaced text out.old out.new needed.new }
+    ensures held { IsHeld (RangeBy grammar text.now) (λ req. req) range_in
+        handle.old.value handle.new.value result }
+    ensures text { IsReply (RangeBy grammar text.now) always_yes
+        (or_message (λ req. inner_text req.inner)) out.old out.new needed.new result }
 {
     match read_range(alloc, grammar, text) {
         Ok(read) => {
-            put(read.canonical.as_str(), out, needed);
-            *handle = RequirementHandle::keep(read.range);
-            Code::Yes.number()
+            let held = Held::Range(read.range);
+            report_held(alloc, handle, held, read.canonical.as_str(), out, needed)
         }
         Err(problem) => report_problem(&problem, out, needed),
     }
 }
 
-/// Parses a package: yes, with its name; an empty handle holds its range, of which the grammar is.
+/// Parses a package: yes, with its name; the handle holds its range, as for `semver_req_read`. The grammar is that of the range.
 #[unsafe(no_mangle)]
 pub extern "C" fn semver_package_read(
     alloc: Global,
@@ -660,21 +663,21 @@ pub extern "C" fn semver_package_read(
     out: &mut [u8],
     needed: &mut usize,
 ) -> i32
-    requires { handle.old.value ≡ None }
-    ensures { (name : List ℕ) × IsPlaced name out.old out.new needed.new
-        × IsHeld (PackageOf grammar text.now) (package_held name handle.new.value) result }
+    ensures held { IsHeld (PackageOf grammar text.now) (λ req. req.version_req) range_in
+        handle.old.value handle.new.value result }
+    ensures text { IsReply (PackageOf grammar text.now) always_yes
+        (or_message (λ req. req.name)) out.old out.new needed.new result }
 {
     match read_package_of(alloc, grammar, text) {
         Ok(read) => {
-            put(read.name.as_str(), out, needed);
-            *handle = RequirementHandle::keep(read.range);
-            Code::Yes.number()
+            let held = Held::Range(read.version_req);
+            report_held(alloc, handle, held, read.name.as_str(), out, needed)
         }
         Err(problem) => report_problem(&problem, out, needed),
     }
 }
 
-/// Parses a version into an empty handle: yes, with its text as displayed.
+/// Parses a version into a handle, as `semver_req_read`: yes, with its text as displayed.
 #[unsafe(no_mangle)]
 pub extern "C" fn semver_version_read(
     alloc: Global,
@@ -683,38 +686,34 @@ pub extern "C" fn semver_version_read(
     out: &mut [u8],
     needed: &mut usize,
 ) -> i32
-    requires { handle.old.value ≡ None }
-    ensures held { IsHeld (VersionOf text.now) handle.new.value result }
-    ensures text { IfSome handle.new.value
-        (λ version. IsPlaced (version_text version) out.old out.new needed.new) }
-    ensures message { (text : List ℕ) × IsPlaced text out.old out.new needed.new }
+    ensures held { IsHeld (VersionOf text.now) (λ version. version) version_in
+        handle.old.value handle.new.value result }
+    ensures text { IsReply (VersionOf text.now) always_yes (or_message version_text)
+        out.old out.new needed.new result }
 {
     match read_version(alloc, text) {
         Ok(read) => {
-            put(read.displayed.as_str(), out, needed);
-            *handle = VersionHandle::keep(read.version);
-            Code::Yes.number()
+            let held = Held::Version(read.version);
+            report_held(alloc, handle, held, read.displayed.as_str(), out, needed)
         }
         Err(problem) => report_problem(&problem, out, needed),
     }
 }
 
-/// Frees the range of the handle, leaving it empty.
+/// Frees what the handle holds, if anything, leaving it empty.
 #[unsafe(no_mangle)]
 pub extern "C" fn semver_req_free(alloc: Global, handle: &mut RequirementHandle)
-    requires { Holds handle.old.value }
     ensures { handle.new.value ≡ None }
 {
-    let _requirement = handle.take(alloc);
+    handle.free(alloc);
 }
 
-/// Frees the version of the handle, leaving it empty.
+/// Frees what the handle holds, if anything, leaving it empty.
 #[unsafe(no_mangle)]
 pub extern "C" fn semver_version_free(alloc: Global, handle: &mut VersionHandle)
-    requires { Holds handle.old.value }
     ensures { handle.new.value ≡ None }
 {
-    let _version = handle.take(alloc);
+    handle.free(alloc);
 }
 
 /// Whether the version matches the range of the handle, like `semver_fits`.
@@ -725,114 +724,99 @@ pub extern "C" fn semver_req_fits(
     version: &[u8],
     pre_releases: u32,
 ) -> i32
-    requires { Holds handle.old.value }
     ensures stays { handle.new.value ≡ handle.old.value }
-    ensures code { IfSome handle.old.value
-        (λ req. IsCode (MatchesHeld pre_releases req version.now) (λ code. code) result) }
+    ensures code { IsCode (OfHeld (λ req. MatchesHeld pre_releases req version.now)
+        (range_in handle.old.value)) (λ code. code) result }
 {
-    let requirement = handle.take(alloc);
-    let code = match matches_held(alloc, &*requirement, version, pre_releases) {
+    match matches_held(alloc, handle.range(), version, pre_releases) {
         Ok(code) => code.number(),
         Err(problem) => problem.code().number(),
-    };
-    *handle = RequirementHandle::keep(requirement);
-    code
+    }
 }
 
 /// Whether the version of one handle matches the range of the other: 0 no, 1 yes, -1 the range is a tag.
 #[unsafe(no_mangle)]
 pub extern "C" fn semver_req_matches(
-    alloc: Global,
-    requirement: &mut RequirementHandle,
+    range: &mut RequirementHandle,
     version: &mut VersionHandle,
     pre_releases: u32,
 ) -> i32
-    requires requirement { Holds requirement.old.value }
-    requires version { Holds version.old.value }
-    ensures stays_requirement { requirement.new.value ≡ requirement.old.value }
+    ensures stays_range { range.new.value ≡ range.old.value }
     ensures stays_version { version.new.value ≡ version.old.value }
-    ensures code { IsHeldMatch pre_releases requirement.old.value version.old.value result }
+    ensures code { result ≡ code_of match_code
+        (of_both (λ req v. match_of (pre_release_by pre_releases) req.inner v)
+        (range_in range.old.value) (version_in version.old.value)) }
 {
-    let (req, v) = (requirement.take(alloc), version.take(alloc));
-    let code = match_code(&*req, &*v, pre_release(pre_releases));
-    *requirement = RequirementHandle::keep(req);
-    *version = VersionHandle::keep(v);
-    code.number()
+    let (Some(req), Some(v)) = (range.range(), version.version()) else {
+        return Code::NoValue.number();
+    };
+    match_code(req, v, pre_release(pre_releases)).number()
 }
 
 /// Whether the release of these numbers matches the range of the handle, like `semver_req_matches`. Pre-releases don't matter.
 #[unsafe(no_mangle)]
 pub extern "C" fn semver_req_matches_release(
     alloc: Global,
-    requirement: &mut RequirementHandle,
+    handle: &mut RequirementHandle,
     major: u64,
     minor: u64,
     patch: u64,
 ) -> i32
-    requires { Holds requirement.old.value }
-    ensures stays { requirement.new.value ≡ requirement.old.value }
-    ensures code { (pre_releases : ℕ) → IsHeldMatch pre_releases requirement.old.value
-        (Some (release major minor patch)) result }
+    ensures stays { handle.new.value ≡ handle.old.value }
+    ensures code { (pre_releases : ℕ) → result ≡ code_of match_code
+        (of_one (λ req. match_of (pre_release_by pre_releases) req.inner (release major minor patch))
+        (range_in handle.old.value)) }
 {
-    let req = requirement.take(alloc);
+    let Some(req) = handle.range() else {
+        return Code::NoValue.number();
+    };
     let version = release(alloc, major, minor, patch);
-    let code = match_code(&*req, &version, PreRelease::Restricted);
-    *requirement = RequirementHandle::keep(req);
-    code.number()
+    match_code(req, &version, PreRelease::Restricted).number()
 }
 
 /// Whether the range of the handle is a tag: yes or no.
 #[unsafe(no_mangle)]
-pub extern "C" fn semver_req_is_tag(alloc: Global, handle: &mut RequirementHandle) -> i32
-    requires { Holds handle.old.value }
+pub extern "C" fn semver_req_is_tag(handle: &mut RequirementHandle) -> i32
     ensures stays { handle.new.value ≡ handle.old.value }
-    ensures code { IfSome handle.old.value
-        (λ req. result ≡ number_of (bool_code (is_some (tag_of req.inner)))) }
+    ensures code { result ≡ code_of bool_code
+        (of_one (λ req. is_some (tag_of req.inner)) (range_in handle.old.value)) }
 {
-    let requirement = handle.take(alloc);
-    let code = Code::of_bool(is_tag(&*requirement));
-    *handle = RequirementHandle::keep(requirement);
+    let code = match handle.range() {
+        Some(req) => Code::of_bool(is_tag(req)),
+        None => Code::NoValue,
+    };
     code.number()
 }
 
 /// Whether the ranges of two handles overlap: 0 no, 1 yes.
 #[unsafe(no_mangle)]
 pub extern "C" fn semver_req_overlap(
-    alloc: Global,
     one: &mut RequirementHandle,
     other: &mut RequirementHandle,
 ) -> i32
-    requires one { Holds one.old.value }
-    requires other { Holds other.old.value }
     ensures stays_one { one.new.value ≡ one.old.value }
     ensures stays_other { other.new.value ≡ other.old.value }
-    ensures code { IsHeldOverlap one.old.value other.old.value result }
+    ensures code { result ≡ code_of bool_code (of_both (λ r s. inner_overlap r.inner s.inner)
+        (range_in one.old.value) (range_in other.old.value)) }
 {
-    let (req, other_req) = (one.take(alloc), other.take(alloc));
-    let overlap = req.intersects(&*other_req);
-    *one = RequirementHandle::keep(req);
-    *other = RequirementHandle::keep(other_req);
-    Code::of_bool(overlap).number()
+    let (Some(r), Some(s)) = (one.range(), other.range()) else {
+        return Code::NoValue.number();
+    };
+    Code::of_bool(r.intersects(s)).number()
 }
 
 /// The order of the versions of two handles, like `semver_compare`.
 #[unsafe(no_mangle)]
-pub extern "C" fn semver_version_compare(
-    alloc: Global,
-    one: &mut VersionHandle,
-    other: &mut VersionHandle,
-) -> i32
-    requires one { Holds one.old.value }
-    requires other { Holds other.old.value }
+pub extern "C" fn semver_version_compare(one: &mut VersionHandle, other: &mut VersionHandle) -> i32
     ensures stays_one { one.new.value ≡ one.old.value }
     ensures stays_other { other.new.value ≡ other.old.value }
-    ensures code { IsHeldOrder precedence_cmp one.old.value other.old.value result }
+    ensures code { result ≡ code_of order_code (of_both precedence_cmp
+        (version_in one.old.value) (version_in other.old.value)) }
 {
-    let (v, w) = (one.take(alloc), other.take(alloc));
-    let order = v.cmp_precedence(&*w);
-    *one = VersionHandle::keep(v);
-    *other = VersionHandle::keep(w);
-    Code::of_order(order).number()
+    let (Some(v), Some(w)) = (one.version(), other.version()) else {
+        return Code::NoValue.number();
+    };
+    Code::of_order(v.cmp_precedence(w)).number()
 }
 
 /// The canonical form of the range of the handle: 1.
@@ -843,18 +827,12 @@ pub extern "C" fn semver_req_normal(
     out: &mut [u8],
     needed: &mut usize,
 ) -> i32
-    requires { Holds handle.old.value }
     ensures stays { handle.new.value ≡ handle.old.value }
-    ensures text { IfSome handle.old.value (λ req. IsReply (Is (inner_text req.inner))
-        always_yes (or_message (λ text. text)) out.old out.new needed.new result) }
+    ensures text { IsReported always_yes (or_message (λ text. text))
+        (of_one (λ req. inner_text req.inner) (range_in handle.old.value))
+        out.old out.new needed.new result }
 {
-    let requirement = handle.take(alloc);
-    let canonical = requirement
-        .to_string_normalized(alloc)
-        .map_err(Problem::from);
-    let code = report_text(canonical, out, needed);
-    *handle = RequirementHandle::keep(requirement);
-    code
+    report_text(canonical_held(alloc, handle.range()), out, needed)
 }
 
 /// The version of the handle as displayed: 1.
@@ -865,101 +843,85 @@ pub extern "C" fn semver_version_text(
     out: &mut [u8],
     needed: &mut usize,
 ) -> i32
-    requires { Holds handle.old.value }
     ensures stays { handle.new.value ≡ handle.old.value }
-    ensures text { IfSome handle.old.value (λ version. IsReply (Is (version_text version))
-        always_yes (or_message (λ text. text)) out.old out.new needed.new result) }
+    ensures text { IsReported always_yes (or_message (λ text. text))
+        (of_one version_text (version_in handle.old.value))
+        out.old out.new needed.new result }
 {
-    let version = handle.take(alloc);
-    let displayed = text_of_version(alloc, &*version).map_err(Problem::from);
-    let code = report_text(displayed, out, needed);
-    *handle = VersionHandle::keep(version);
-    code
+    report_text(displayed_held(alloc, handle.version()), out, needed)
 }
 
 /// The text that the range of the handle was parsed from: 1.
 #[unsafe(no_mangle)]
 pub extern "C" fn semver_req_text(
-    alloc: Global,
     handle: &mut RequirementHandle,
     out: &mut [u8],
     needed: &mut usize,
 ) -> i32
-    requires { Holds handle.old.value }
     ensures stays { handle.new.value ≡ handle.old.value }
-    ensures text { IfSome handle.old.value
-        (λ req. IsPlaced req.raw_text out.old out.new needed.new) }
-    ensures code { result ≡ yes }
+    ensures text { IsPlaced (or_message (λ text. text)
+        (of_one (λ req. req.raw_text) (range_in handle.old.value))) out.old out.new needed.new }
+    ensures code { result ≡ code_of always_yes
+        (of_one (λ req. req.raw_text) (range_in handle.old.value)) }
 {
-    let requirement = handle.take(alloc);
-    put(requirement.version_text(), out, needed);
-    *handle = RequirementHandle::keep(requirement);
-    Code::Yes.number()
+    match handle.range() {
+        Some(req) => {
+            put(req.version_text(), out, needed);
+            Code::Yes.number()
+        }
+        None => report_problem(&Problem::NoValue, out, needed),
+    }
 }
 
 /// The order of the versions of two handles; versions that differ only in the build are ordered by it.
 #[unsafe(no_mangle)]
-pub extern "C" fn semver_version_order(
-    alloc: Global,
-    one: &mut VersionHandle,
-    other: &mut VersionHandle,
-) -> i32
-    requires one { Holds one.old.value }
-    requires other { Holds other.old.value }
+pub extern "C" fn semver_version_order(one: &mut VersionHandle, other: &mut VersionHandle) -> i32
     ensures stays_one { one.new.value ≡ one.old.value }
     ensures stays_other { other.new.value ≡ other.old.value }
-    ensures code { IsHeldOrder version_cmp one.old.value other.old.value result }
+    ensures code { result ≡ code_of order_code (of_both version_cmp
+        (version_in one.old.value) (version_in other.old.value)) }
 {
-    let (v, w) = (one.take(alloc), other.take(alloc));
-    let order = (*v).cmp(&*w);
-    *one = VersionHandle::keep(v);
-    *other = VersionHandle::keep(w);
-    Code::of_order(order).number()
+    let (Some(v), Some(w)) = (one.version(), other.version()) else {
+        return Code::NoValue.number();
+    };
+    Code::of_order(v.cmp(w)).number()
 }
 
 /// Whether the ranges of two handles mean the same: 0 no, 1 yes. The texts that they were parsed from don't matter.
 #[unsafe(no_mangle)]
 pub extern "C" fn semver_req_equal(
-    alloc: Global,
     one: &mut RequirementHandle,
     other: &mut RequirementHandle,
 ) -> i32
-    requires one { Holds one.old.value }
-    requires other { Holds other.old.value }
     ensures stays_one { one.new.value ≡ one.old.value }
     ensures stays_other { other.new.value ≡ other.old.value }
-    ensures code { IsHeldEqual one.old.value other.old.value result }
+    ensures code { IsHeldEqual (range_in one.old.value) (range_in other.old.value) result }
 {
-    let (req, other_req) = (one.take(alloc), other.take(alloc));
-    let equal = equal_requirements(&*req, &*other_req);
-    *one = RequirementHandle::keep(req);
-    *other = RequirementHandle::keep(other_req);
-    Code::of_bool(equal).number()
+    let (Some(r), Some(s)) = (one.range(), other.range()) else {
+        return Code::NoValue.number();
+    };
+    Code::of_bool(equal_requirements(r, s)).number()
 }
 
 /// The order of the ranges of two handles; a tag is before ranges, and of ranges those with higher starts and lower ends come first.
 #[unsafe(no_mangle)]
 pub extern "C" fn semver_req_order(
-    alloc: Global,
     one: &mut RequirementHandle,
     other: &mut RequirementHandle,
 ) -> i32
-    requires one { Holds one.old.value }
-    requires other { Holds other.old.value }
     ensures stays_one { one.new.value ≡ one.old.value }
     ensures stays_other { other.new.value ≡ other.old.value }
-    ensures code { IsHeldOrder (λ req others. inner_cmp req.inner others.inner)
-        one.old.value other.old.value result }
+    ensures code { result ≡ code_of order_code (of_both (λ r s. inner_cmp r.inner s.inner)
+        (range_in one.old.value) (range_in other.old.value)) }
 {
-    let (req, other_req) = (one.take(alloc), other.take(alloc));
-    let order = cmp_version_reqs(&*req, &*other_req);
-    *one = RequirementHandle::keep(req);
-    *other = RequirementHandle::keep(other_req);
-    Code::of_order(order).number()
+    let (Some(r), Some(s)) = (one.range(), other.range()) else {
+        return Code::NoValue.number();
+    };
+    Code::of_order(cmp_version_reqs(r, s)).number()
 }
 
-/// Parses several versions, one per line, into an empty handle: yes, and `lines` is the number of lines. A line that isn't a
-/// version keeps its place and matches nothing. For any other code `lines` is unchanged.
+/// Parses several versions, one per line, into a handle, and frees what that held: yes, and `lines` is the number of lines. A line
+/// that isn't a version keeps its place and matches nothing. For any other code the handle and `lines` stay as they were.
 #[unsafe(no_mangle)]
 pub extern "C" fn semver_list_read(
     alloc: Global,
@@ -967,28 +929,33 @@ pub extern "C" fn semver_list_read(
     handle: &mut VersionListHandle,
     lines: &mut usize,
 ) -> i32
-    requires { handle.old.value ≡ None }
-    ensures held { IsHeld (VersionListOf versions.now) (lines_of handle.new.value) result }
-    ensures lines { IfSome (lines_of handle.new.value) (λ list. lines.new ≡ length list) }
+    ensures held { IsHeld (VersionListOf versions.now) (λ list. list) versions_in
+        handle.old.value handle.new.value result }
+    ensures lines { IfSome (versions_in handle.new.value)
+        (λ list. (result ≡ yes) → lines.new ≡ length list) }
     ensures stays { (result ≡ yes → ⊥) → lines.new ≡ lines.old }
 {
     match read_list(alloc, versions) {
         Ok(list) => {
-            *lines = list.lines.len();
-            *handle = VersionListHandle::keep(list);
-            Code::Yes.number()
+            let count = list.len();
+            match handle.hold(alloc, Held::Versions(list)) {
+                Ok(()) => {
+                    *lines = count;
+                    Code::Yes.number()
+                }
+                Err(_) => Code::NoMemory.number(),
+            }
         }
         Err(problem) => problem.code().number(),
     }
 }
 
-/// Frees the versions of the handle, leaving it empty.
+/// Frees what the handle holds, if anything, leaving it empty.
 #[unsafe(no_mangle)]
 pub extern "C" fn semver_list_free(alloc: Global, handle: &mut VersionListHandle)
-    requires { Holds handle.old.value }
     ensures { handle.new.value ≡ None }
 {
-    let _list = handle.take(alloc);
+    handle.free(alloc);
 }
 
 /// Which versions of the one handle match the range of the other: like `semver_filter`.
@@ -1001,69 +968,65 @@ pub extern "C" fn semver_list_filter(
     answers: &mut [i8],
     needed: &mut usize,
 ) -> i32
-    requires list { Holds list.old.value }
-    requires range { Holds range.old.value }
     ensures stays_list { list.new.value ≡ list.old.value }
     ensures stays_range { range.new.value ≡ range.old.value }
-    ensures answer { IsHeldFilter pre_releases list.old.value range.old.value
+    ensures answer { IsReported filter_code (or_nothing filter_numbers)
+        (of_both (λ lines req. list_matches (pre_release_by pre_releases) req.inner lines)
+        (versions_in list.old.value) (range_in range.old.value))
         answers.old answers.new needed.new result }
     ensures no_answers { IsUntouched answers.old answers.new needed.new result }
 {
-    let (versions, requirement) = (list.take(alloc), range.take(alloc));
-    let answer = filter_held(alloc, &*versions, &*requirement, pre_releases);
-    let code = report_filter(alloc, answer, answers, needed);
-    *list = VersionListHandle::keep(versions);
-    *range = RequirementHandle::keep(requirement);
-    code
+    let answer = filter_held(alloc, list.versions(), range.range(), pre_releases);
+    report_filter(alloc, answer, answers, needed)
 }
 
 /// Which version of the one handle is the highest that matches the range of the other, the first of equal ones: yes, the one at
 /// `place`, counted from 0; no; or that the range is a tag. For any code but 1 `place` is unchanged.
 #[unsafe(no_mangle)]
 pub extern "C" fn semver_list_best(
-    alloc: Global,
     list: &mut VersionListHandle,
     range: &mut RequirementHandle,
     pre_releases: u32,
     place: &mut usize,
 ) -> i32
-    requires list { Holds list.old.value }
-    requires range { Holds range.old.value }
     ensures stays_list { list.new.value ≡ list.old.value }
     ensures stays_range { range.new.value ≡ range.old.value }
-    ensures best { IsHeldBest end.Highest pre_releases list.old.value range.old.value
-        place.old place.new result }
+    ensures best { (code : Code) × (result ≡ number_of code)
+        × IsHeldBest end.Highest pre_releases (versions_in list.old.value)
+        (range_in range.old.value) place.old place.new code }
 {
-    let (versions, requirement) = (list.take(alloc), range.take(alloc));
-    let pre_release = pre_release(pre_releases);
-    let code = best_held(End::Highest, &*versions, &*requirement, pre_release, place);
-    *list = VersionListHandle::keep(versions);
-    *range = RequirementHandle::keep(requirement);
-    code.number()
+    best_held(
+        End::Highest,
+        list.versions(),
+        range.range(),
+        pre_releases,
+        place,
+    )
+    .number()
 }
 
 /// Which version of the one handle is the lowest that matches the range of the other: like `semver_list_best`.
 #[unsafe(no_mangle)]
 pub extern "C" fn semver_list_lowest(
-    alloc: Global,
     list: &mut VersionListHandle,
     range: &mut RequirementHandle,
     pre_releases: u32,
     place: &mut usize,
 ) -> i32
-    requires list { Holds list.old.value }
-    requires range { Holds range.old.value }
     ensures stays_list { list.new.value ≡ list.old.value }
     ensures stays_range { range.new.value ≡ range.old.value }
-    ensures best { IsHeldBest end.Lowest pre_releases list.old.value range.old.value
-        place.old place.new result }
+    ensures best { (code : Code) × (result ≡ number_of code)
+        × IsHeldBest end.Lowest pre_releases (versions_in list.old.value)
+        (range_in range.old.value) place.old place.new code }
 {
-    let (versions, requirement) = (list.take(alloc), range.take(alloc));
-    let pre_release = pre_release(pre_releases);
-    let code = best_held(End::Lowest, &*versions, &*requirement, pre_release, place);
-    *list = VersionListHandle::keep(versions);
-    *range = RequirementHandle::keep(requirement);
-    code.number()
+    best_held(
+        End::Lowest,
+        list.versions(),
+        range.range(),
+        pre_releases,
+        place,
+    )
+    .number()
 }
 
 /// The places of the lines of the handle that are versions, in the order of precedence: yes. The place of the lowest comes first, places
@@ -1076,16 +1039,12 @@ pub extern "C" fn semver_list_sort(
     places: &mut [usize],
     needed: &mut usize,
 ) -> i32
-    requires { Holds list.old.value }
     ensures stays { list.new.value ≡ list.old.value }
-    ensures answer { IsHeldSort list.old.value places.old places.new needed.new result }
+    ensures answer { IsReply (OfHeld (SortedLines Ascending) (versions_in list.old.value))
+        always_yes (or_nothing (λ places. places)) places.old places.new needed.new result }
     ensures no_places { IsUntouched places.old places.new needed.new result }
 {
-    let versions = list.take(alloc);
-    let sorted = sorting::sorted_lines(alloc, versions.lines.as_slice(), Order::Ascending);
-    let code = report_places(sorted.map_err(Problem::from), places, needed);
-    *list = VersionListHandle::keep(versions);
-    code
+    report_places(sorted_held(alloc, list.versions()), places, needed)
 }
 
 /// The version of this API: it changes when a call does.

@@ -2,20 +2,22 @@
 
 ghost use Rattle.std.specs.Prelude.{◌≡◌, IfOk, is_some, string_bytes};
 ghost use Rattle.std.specs.Cow.{cow_str_bytes};
-ghost use Rattle.std.specs.Option.{option_map};
+ghost use Rattle.std.specs.Option.{option_copied, option_map};
 ghost use Rattle.semver_base.specs.VersionText.{version_text};
 ghost use Rattle.semver_req.specs.Requirement.{inner_text, tag_of};
-ghost use Rattle.answers.specs.Asking.{Is};
 ghost use Rattle.answers.specs.Filtering.{list_answer, list_matches};
 ghost use Rattle.answers.specs.Questions.{match_of};
-ghost use Rattle.semver_c.specs.Arguments.{IsCallAnswer, IsOneCallAnswer, pre_release_by};
+ghost use Rattle.answers.specs.Sorting.{SortedLines};
+ghost use Rattle.answers.specs.declared.sorting.Order.TheVariants.{Ascending};
+ghost use Rattle.semver_c.specs.Arguments.{IsCallAnswer, IsCallOutcome, IsOneCallAnswer, pre_release_by};
 ghost use Rattle.semver_c.specs.Codes.{match_code};
-ghost use Rattle.semver_c.specs.Held.{IsListBest, list_lines};
-ghost use Rattle.semver_c.specs.Questions.{BestLine, CanonicalBy, CommonBy, CommonOfAll, DependencyBy, DisplayedOf, EquivalentBy, ErrorsBy, ExplainsBy, ExportNameOf, Filters, Fits, LowestBy, MatchesHeld, NameWithVersionOf, NumbersOf, OrdersOf, OutsideBy, OverlapsBy, PackageBy, PackageErrorsBy, PackageOf, RangeBy, RangesBy, ReferenceErrorsOf, ReferenceOf, SortsOf, TagBy, VersionErrorOf, VersionListOf, VersionOf, VersionPartsOf, VersionReferenceOf, WhyBy, whole_package};
+ghost use Rattle.semver_c.specs.Held.{IsHeldBest, OfHeld, of_both, of_one};
+ghost use Rattle.semver_c.specs.Questions.{BestLine, CanonicalBy, CommonBy, CommonOfAll, DependencyBy, DisplayedOf, EquivalentBy, ErrorsBy, ExplainsBy, ExportNameOf, Filters, Fits, LowestBy, MatchesHeld, NameWithVersionOf, NumbersOf, OrdersOf, OutsideBy, OverlapsBy, PackageBy, PackageErrorsBy, PackageOf, RangeBy, RangesBy, ReferenceErrorsOf, ReferenceOf, SortsOf, TagBy, VersionErrorOf, VersionListOf, VersionOf, VersionPartsOf, VersionReferenceOf, WhyBy};
 
-use crate::arguments::{Problem, Subject, flavour, line_list, pre_release, text};
+use crate::arguments::{
+    Problem, Subject, line_list, pre_release, subject_of, text, with_text, with_texts,
+};
 use crate::codes::Code;
-use crate::handles::VersionList;
 use answers::asking::Answer;
 use answers::errors::{errors_of_range, version_error};
 use answers::explained_json::explain_as_json;
@@ -26,16 +28,16 @@ use answers::questions::{
     overlaps, text_of_version, version_outside,
 };
 use answers::reading::{range, version};
-use answers::sorting::{Order, sort};
+use answers::sorting::{self, Order, sort};
 use deno_semver::jsr::normalized_export_name;
-use deno_semver::package::PackageName;
+use deno_semver::package::PackageReq;
 use deno_semver::{PreRelease, Version, VersionReq};
 use package_answers::faults::{package_fault, reference_fault};
 use package_answers::names::name_with_version_parts;
 use package_answers::packages::{package_errors_text, package_parts, read_package};
 use package_answers::references::{reference_errors_text, reference_parts};
 use package_answers::specifiers::{dependency_parts, version_reference_parts};
-use std::alloc::{AllocError, Global};
+use std::alloc::Global;
 use std::borrow::CowStr;
 use std::cmp::Ordering;
 
@@ -49,18 +51,18 @@ pub fn explanation_of(
     ensures { IsOneCallAnswer (ExplainsBy pre_releases grammar range.now)
         (λ answer. list_answer (λ text. string_bytes text) answer) result }
 {
-    let flavour = flavour(grammar)?;
-    let range = text(range)?;
-    Ok(explain_as_json(alloc, flavour, pre_release(pre_releases), range)?)
+    let given = with_text(grammar, range)?;
+    explain_as_json(alloc, given.flavour, pre_release(pre_releases), given.text).map_err(
+        Problem::from,
+    )
 }
 
 /// What is wrong with the range, and where?
 pub fn errors_of(alloc: Global, grammar: u32, range: &[u8]) -> Result<String, Problem>
     ensures { IsOneCallAnswer (ErrorsBy grammar range.now) (λ text. string_bytes text) result }
 {
-    let flavour = flavour(grammar)?;
-    let range = text(range)?;
-    Ok(errors_of_range(alloc, flavour, range)?)
+    let given = with_text(grammar, range)?;
+    errors_of_range(alloc, given.flavour, given.text).map_err(Problem::from)
 }
 
 /// What is wrong with the package, and where?
@@ -68,25 +70,24 @@ pub fn package_errors_of(alloc: Global, grammar: u32, bytes: &[u8]) -> Result<St
     ensures { IsOneCallAnswer (PackageErrorsBy grammar bytes.now)
         (λ text. string_bytes text) result }
 {
-    let flavour = flavour(grammar)?;
-    let text = text(bytes)?;
-    Ok(package_errors_text(alloc, flavour, text)?)
+    let given = with_text(grammar, bytes)?;
+    package_errors_text(alloc, given.flavour, given.text).map_err(Problem::from)
 }
 
 /// What is wrong with the reference, and where?
 pub fn reference_errors_of(alloc: Global, reference: &[u8]) -> Result<String, Problem>
     ensures { IsOneCallAnswer (ReferenceErrorsOf reference.now) (λ text. string_bytes text) result }
 {
-    let reference = text(reference)?;
-    Ok(reference_errors_text(alloc, reference)?)
+    let text = text(reference)?;
+    reference_errors_text(alloc, text).map_err(Problem::from)
 }
 
 /// Where does the text stop being a version?
 pub fn version_error_of(alloc: Global, version: &[u8]) -> Result<usize, Problem>
     ensures { IsCallAnswer (VersionErrorOf version.now) (λ place. place) result }
 {
-    let version = text(version)?;
-    Ok(version_error(alloc, version)?)
+    let text = text(version)?;
+    version_error(alloc, text).map_err(Problem::from)
 }
 
 /// Does the version match the range?
@@ -100,10 +101,9 @@ pub fn fits(
     ensures { IsCallAnswer (Fits pre_releases grammar range.now version.now)
         (λ answer. answer) result }
 {
-    let flavour = flavour(grammar)?;
-    let range = text(range)?;
-    let version = text(version)?;
-    Ok(matches(alloc, flavour, pre_release(pre_releases), range, version)?)
+    let given = with_texts(grammar, range, version)?;
+    let pre_release = pre_release(pre_releases);
+    matches(alloc, given.flavour, pre_release, given.one, given.other).map_err(Problem::from)
 }
 
 /// Which of the versions, one per line, match the range?
@@ -117,17 +117,17 @@ pub fn filter(
     ensures { IsCallAnswer (Filters pre_releases grammar range.now versions.now)
         (λ answer. list_answer (λ list. list.items) answer) result }
 {
-    let flavour = flavour(grammar)?;
-    let range = text(range)?;
-    let versions = text(versions)?;
-    let lines = line_list(alloc, versions)?;
-    Ok(filtering::filter(
+    let given = with_texts(grammar, range, versions)?;
+    let lines = line_list(alloc, given.other)?;
+    let pre_release = pre_release(pre_releases);
+    filtering::filter(
         alloc,
-        flavour,
-        pre_release(pre_releases),
-        range,
+        given.flavour,
+        pre_release,
+        given.one,
         lines.as_slice(),
-    )?)
+    )
+    .map_err(Problem::from)
 }
 
 /// Which of the versions, one per line, is the highest or lowest that matches the range?
@@ -142,27 +142,27 @@ pub fn best_line(
     ensures { IsCallAnswer (BestLine end pre_releases grammar range.now versions.now)
         (λ answer. answer) result }
 {
-    let flavour = flavour(grammar)?;
-    let range = text(range)?;
-    let versions = text(versions)?;
-    let lines = line_list(alloc, versions)?;
-    Ok(best_match(
+    let given = with_texts(grammar, range, versions)?;
+    let lines = line_list(alloc, given.other)?;
+    let pre_release = pre_release(pre_releases);
+    best_match(
         alloc,
         end,
-        flavour,
-        pre_release(pre_releases),
-        range,
+        given.flavour,
+        pre_release,
+        given.one,
         lines.as_slice(),
-    )?)
+    )
+    .map_err(Problem::from)
 }
 
 /// In which order do the versions stand, one per line?
 pub fn sorted_lines(alloc: Global, versions: &[u8]) -> Result<Vec<usize>, Problem>
     ensures { IsCallAnswer (SortsOf versions.now) (λ places. places.items) result }
 {
-    let versions = text(versions)?;
-    let lines = line_list(alloc, versions)?;
-    Ok(sort(alloc, lines.as_slice(), Order::Ascending)?)
+    let text = text(versions)?;
+    let lines = line_list(alloc, text)?;
+    sort(alloc, lines.as_slice(), Order::Ascending).map_err(Problem::from)
 }
 
 /// Which of the two versions comes before the other?
@@ -171,17 +171,15 @@ pub fn order_of(alloc: Global, one: &[u8], other: &[u8]) -> Result<Ordering, Pro
 {
     let one = text(one)?;
     let other = text(other)?;
-    Ok(order(alloc, one, other)?)
+    order(alloc, one, other).map_err(Problem::from)
 }
 
 /// Do the two ranges overlap?
 pub fn overlap(alloc: Global, grammar: u32, one: &[u8], other: &[u8]) -> Result<bool, Problem>
     ensures { IsCallAnswer (OverlapsBy grammar one.now other.now) (λ answer. answer) result }
 {
-    let flavour = flavour(grammar)?;
-    let one = text(one)?;
-    let other = text(other)?;
-    Ok(overlaps(alloc, flavour, one, other)?)
+    let given = with_texts(grammar, one, other)?;
+    overlaps(alloc, given.flavour, given.one, given.other).map_err(Problem::from)
 }
 
 /// Do the two ranges match the same versions?
@@ -195,10 +193,9 @@ pub fn equivalent_ranges(
     ensures { IsCallAnswer (EquivalentBy pre_releases grammar one.now other.now)
         (λ answer. answer) result }
 {
-    let flavour = flavour(grammar)?;
-    let one = text(one)?;
-    let other = text(other)?;
-    Ok(equivalent(alloc, flavour, pre_release(pre_releases), one, other)?)
+    let given = with_texts(grammar, one, other)?;
+    let pre_release = pre_release(pre_releases);
+    equivalent(alloc, given.flavour, pre_release, given.one, given.other).map_err(Problem::from)
 }
 
 /// What is the lowest version that the range matches?
@@ -210,9 +207,9 @@ pub fn lowest(
 ) -> Result<Answer<Option<Version>>, Problem>
     ensures { IsCallAnswer (LowestBy pre_releases grammar range.now) (λ answer. answer) result }
 {
-    let flavour = flavour(grammar)?;
-    let range = text(range)?;
-    Ok(common_version(alloc, flavour, pre_release(pre_releases), &[range])?)
+    let given = with_text(grammar, range)?;
+    let pre_release = pre_release(pre_releases);
+    common_version(alloc, given.flavour, pre_release, &[given.text]).map_err(Problem::from)
 }
 
 /// What is the lowest version that both ranges match?
@@ -226,10 +223,11 @@ pub fn common(
     ensures { IsCallAnswer (CommonBy pre_releases grammar one.now other.now)
         (λ answer. answer) result }
 {
-    let flavour = flavour(grammar)?;
-    let one = text(one)?;
-    let other = text(other)?;
-    Ok(common_version(alloc, flavour, pre_release(pre_releases), &[one, other])?)
+    let given = with_texts(grammar, one, other)?;
+    let pre_release = pre_release(pre_releases);
+    common_version(alloc, given.flavour, pre_release, &[given.one, given.other]).map_err(
+        Problem::from,
+    )
 }
 
 /// What is the lowest version that all of the ranges match, one per line?
@@ -242,10 +240,10 @@ pub fn common_of_all(
     ensures { IsCallAnswer (CommonOfAll pre_releases grammar ranges.now)
         (λ answer. answer) result }
 {
-    let flavour = flavour(grammar)?;
-    let ranges = text(ranges)?;
-    let lines = line_list(alloc, ranges)?;
-    Ok(common_version(alloc, flavour, pre_release(pre_releases), lines.as_slice())?)
+    let given = with_text(grammar, ranges)?;
+    let lines = line_list(alloc, given.text)?;
+    let pre_release = pre_release(pre_releases);
+    common_version(alloc, given.flavour, pre_release, lines.as_slice()).map_err(Problem::from)
 }
 
 /// What is the lowest version that the first range matches and the other doesn't?
@@ -259,19 +257,19 @@ pub fn outside(
     ensures { IsCallAnswer (OutsideBy pre_releases grammar one.now other.now)
         (λ answer. answer) result }
 {
-    let flavour = flavour(grammar)?;
-    let one = text(one)?;
-    let other = text(other)?;
-    Ok(version_outside(alloc, flavour, pre_release(pre_releases), one, other)?)
+    let given = with_texts(grammar, one, other)?;
+    let pre_release = pre_release(pre_releases);
+    version_outside(alloc, given.flavour, pre_release, given.one, given.other).map_err(
+        Problem::from,
+    )
 }
 
 /// What is the canonical form of the range?
 pub fn canonical_form(alloc: Global, grammar: u32, range: &[u8]) -> Result<String, Problem>
     ensures { IsCallAnswer (CanonicalBy grammar range.now) (λ text. string_bytes text) result }
 {
-    let flavour = flavour(grammar)?;
-    let range = text(range)?;
-    Ok(canonical(alloc, flavour, range)?)
+    let given = with_text(grammar, range)?;
+    canonical(alloc, given.flavour, given.text).map_err(Problem::from)
 }
 
 /// Whether the range is a tag.
@@ -285,9 +283,8 @@ pub fn is_tag(range: &VersionReq) -> bool
 pub fn names_tag(alloc: Global, grammar: u32, bytes: &[u8]) -> Result<bool, Problem>
     ensures { IsCallAnswer (TagBy grammar bytes.now) (λ answer. answer) result }
 {
-    let flavour = flavour(grammar)?;
-    let text = text(bytes)?;
-    let range = range(alloc, flavour, 0, text)?;
+    let given = with_text(grammar, bytes)?;
+    let range = range(alloc, given.flavour, 0, given.text)?;
     Ok(is_tag(&range))
 }
 
@@ -295,17 +292,16 @@ pub fn names_tag(alloc: Global, grammar: u32, bytes: &[u8]) -> Result<bool, Prob
 pub fn displayed_version(alloc: Global, version: &[u8]) -> Result<String, Problem>
     ensures { IsCallAnswer (DisplayedOf version.now) (λ text. string_bytes text) result }
 {
-    let version = text(version)?;
-    Ok(displayed(alloc, version)?)
+    let text = text(version)?;
+    displayed(alloc, text).map_err(Problem::from)
 }
 
 /// What are the parts of the package?
 pub fn package_of(alloc: Global, grammar: u32, bytes: &[u8]) -> Result<String, Problem>
     ensures { IsCallAnswer (PackageBy grammar bytes.now) (λ text. string_bytes text) result }
 {
-    let flavour = flavour(grammar)?;
-    let text = text(bytes)?;
-    Ok(package_parts(alloc, flavour, text)?)
+    let given = with_text(grammar, bytes)?;
+    package_parts(alloc, given.flavour, given.text).map_err(Problem::from)
 }
 
 /// Why is the text of a package or a reference invalid?
@@ -318,18 +314,13 @@ pub fn why_invalid(
     ensures { IsCallAnswer (WhyBy what grammar bytes.now)
         (λ answer. option_map string_bytes answer) result }
 {
-    let subject = match what {
-        0 => Subject::Package,
-        1 => Subject::Reference,
-        _ => return Err(Problem::NoGrammar),
-    };
-    let flavour = flavour(grammar)?;
-    let text = text(bytes)?;
+    let subject = subject_of(what)?;
+    let given = with_text(grammar, bytes)?;
     let fault = match subject {
-        Subject::Package => package_fault(alloc, flavour, text),
-        Subject::Reference => reference_fault(alloc, text),
+        Subject::Package => package_fault(alloc, given.flavour, given.text),
+        Subject::Reference => reference_fault(alloc, given.text),
     };
-    Ok(fault?)
+    fault.map_err(Problem::from)
 }
 
 /// What are the parts of the reference?
@@ -337,7 +328,7 @@ pub fn reference_of(alloc: Global, bytes: &[u8]) -> Result<String, Problem>
     ensures { IsCallAnswer (ReferenceOf bytes.now) (λ text. string_bytes text) result }
 {
     let text = text(bytes)?;
-    Ok(reference_parts(alloc, text)?)
+    reference_parts(alloc, text).map_err(Problem::from)
 }
 
 /// What are the parts of the version?
@@ -345,7 +336,7 @@ pub fn version_parts_of(alloc: Global, bytes: &[u8]) -> Result<String, Problem>
     ensures { IsCallAnswer (VersionPartsOf bytes.now) (λ text. string_bytes text) result }
 {
     let text = text(bytes)?;
-    Ok(version_parts(alloc, text)?)
+    version_parts(alloc, text).map_err(Problem::from)
 }
 
 /// What are the ranges of the range?
@@ -353,9 +344,8 @@ pub fn ranges_of(alloc: Global, grammar: u32, bytes: &[u8]) -> Result<Answer<Str
     ensures { IsCallAnswer (RangesBy grammar bytes.now)
         (λ answer. list_answer (λ text. string_bytes text) answer) result }
 {
-    let flavour = flavour(grammar)?;
-    let text = text(bytes)?;
-    Ok(range_parts(alloc, flavour, text)?)
+    let given = with_text(grammar, bytes)?;
+    range_parts(alloc, given.flavour, given.text).map_err(Problem::from)
 }
 
 /// What are the parts of the name with a version?
@@ -363,7 +353,7 @@ pub fn name_with_version_of(alloc: Global, bytes: &[u8]) -> Result<String, Probl
     ensures { IsCallAnswer (NameWithVersionOf bytes.now) (λ text. string_bytes text) result }
 {
     let text = text(bytes)?;
-    Ok(name_with_version_parts(alloc, text)?)
+    name_with_version_parts(alloc, text).map_err(Problem::from)
 }
 
 /// What are the parts of the reference to a version?
@@ -371,92 +361,68 @@ pub fn version_reference_of(alloc: Global, bytes: &[u8]) -> Result<String, Probl
     ensures { IsCallAnswer (VersionReferenceOf bytes.now) (λ text. string_bytes text) result }
 {
     let text = text(bytes)?;
-    Ok(version_reference_parts(alloc, text)?)
+    version_reference_parts(alloc, text).map_err(Problem::from)
 }
 
 /// What are the parts of the dependency?
 pub fn dependency_of(alloc: Global, grammar: u32, bytes: &[u8]) -> Result<String, Problem>
     ensures { IsCallAnswer (DependencyBy grammar bytes.now) (λ text. string_bytes text) result }
 {
-    let flavour = flavour(grammar)?;
-    let text = text(bytes)?;
-    Ok(dependency_parts(alloc, flavour, text)?)
+    let given = with_text(grammar, bytes)?;
+    dependency_parts(alloc, given.flavour, given.text).map_err(Problem::from)
 }
 
 /// What is the name of the export that the path means?
 pub fn export_name_of<'a>(alloc: Global, bytes: &'a [u8]) -> Result<CowStr<'a, Global>, Problem>
     ensures { IsCallAnswer (ExportNameOf bytes.now) (λ name. cow_str_bytes name) result }
 {
-    let path = text(bytes)?;
-    Ok(normalized_export_name(alloc, Some(path))?)
+    let text = text(bytes)?;
+    normalized_export_name(alloc, Some(text)).map_err(Problem::from)
 }
 
-// The value, on the heap.
-fn boxed<T: Drop>(alloc: Global, value: T) -> Result<Box<T>, AllocError>
-    ensures { IfOk result (λ held. held.value ≡ value) }
-{
-    Ok(Box::new(alloc, value)?)
-}
-
-/// A range on the heap, with its canonical form.
+/// A range, with its canonical form.
 #[derive(Drop)]
 pub struct ReadRange {
-    pub range: Box<VersionReq>,
+    pub range: VersionReq,
     pub canonical: String,
 }
 
 /// Parses a range.
 pub fn read_range(alloc: Global, grammar: u32, bytes: &[u8]) -> Result<ReadRange, Problem>
-    ensures answer { IsCallAnswer (RangeBy grammar bytes.now) (λ read. read.range.value) result }
+    ensures answer { IsCallAnswer (RangeBy grammar bytes.now) (λ read. read.range) result }
     ensures canonical { IfOk result
-        (λ read. string_bytes read.canonical ≡ inner_text read.range.value.inner) }
+        (λ read. string_bytes read.canonical ≡ inner_text read.range.inner) }
 {
-    let flavour = flavour(grammar)?;
-    let text = text(bytes)?;
-    let parsed = range(alloc, flavour, 0, text)?;
-    let canonical = parsed.to_string_normalized(alloc)?;
-    let range = boxed(alloc, parsed)?;
+    let given = with_text(grammar, bytes)?;
+    let range = range(alloc, given.flavour, 0, given.text)?;
+    let canonical = range.to_string_normalized(alloc)?;
     Ok(ReadRange { range, canonical })
 }
 
-/// A package, whose range is on the heap.
-#[derive(Drop)]
-pub struct ReadPackage {
-    pub name: PackageName,
-    pub range: Box<VersionReq>,
-}
-
 /// Parses a package.
-pub fn read_package_of(alloc: Global, grammar: u32, bytes: &[u8]) -> Result<ReadPackage, Problem>
-    ensures { IsCallAnswer (PackageOf grammar bytes.now) whole_package result }
+pub fn read_package_of(alloc: Global, grammar: u32, bytes: &[u8]) -> Result<PackageReq, Problem>
+    ensures { IsCallAnswer (PackageOf grammar bytes.now) (λ req. req) result }
 {
-    let flavour = flavour(grammar)?;
-    let text = text(bytes)?;
-    let package = read_package(alloc, flavour, text)?;
-    let range = boxed(alloc, package.version_req)?;
-    Ok(ReadPackage {
-        name: package.name,
-        range,
-    })
+    let given = with_text(grammar, bytes)?;
+    read_package(alloc, given.flavour, given.text).map_err(Problem::from)
 }
 
-/// A version on the heap, with its text as displayed.
+/// A version, with its text as displayed.
 #[derive(Drop)]
 pub struct ReadVersion {
-    pub version: Box<Version>,
+    pub version: Version,
     pub displayed: String,
 }
 
 /// Parses a version.
 pub fn read_version(alloc: Global, bytes: &[u8]) -> Result<ReadVersion, Problem>
-    ensures answer { IsCallAnswer (VersionOf bytes.now) (λ read. read.version.value) result }
+    ensures answer { IsCallAnswer (VersionOf bytes.now) (λ read. read.version) result }
     ensures displayed { IfOk result
-        (λ read. string_bytes read.displayed ≡ version_text read.version.value) }
+        (λ read. string_bytes read.displayed ≡ version_text read.version) }
 {
     let text = text(bytes)?;
-    let parsed = version(alloc, 0, text)?;
-    let displayed = text_of_version(alloc, &parsed)?;
-    let version = boxed(alloc, parsed)?;
+    let version = version(alloc, 0, text)?;
+    let displayed = text_of_version(alloc, &version)?;
     Ok(ReadVersion { version, displayed })
 }
 
@@ -483,51 +449,90 @@ pub fn numbers_of(alloc: Global, bytes: &[u8]) -> Result<Numbers, Problem>
     })
 }
 
-/// Parses several versions, one per line, onto the heap.
-pub fn read_list(alloc: Global, bytes: &[u8]) -> Result<Box<VersionList>, Problem>
-    ensures { IsCallAnswer (VersionListOf bytes.now) (λ read. list_lines read.value) result }
+/// Parses several versions, one per line.
+pub fn read_list(alloc: Global, bytes: &[u8]) -> Result<Vec<Option<Version>>, Problem>
+    ensures { IsCallAnswer (VersionListOf bytes.now) (λ list. list.items) result }
 {
     let text = text(bytes)?;
-    let texts = line_list(alloc, text)?;
-    let lines = version_lines(alloc, texts.as_slice())?;
-    Ok(boxed(alloc, VersionList { lines })?)
+    let lines = line_list(alloc, text)?;
+    version_lines(alloc, lines.as_slice()).map_err(Problem::from)
+}
+
+// ---- of values that handles hold
+
+/// What is the canonical form of the range?
+pub fn canonical_held(alloc: Global, range: Option<&VersionReq>) -> Result<String, Problem>
+    ensures { IsCallOutcome (of_one (λ req. inner_text req.inner) (option_copied range.entry))
+        string_bytes result }
+{
+    match range {
+        Some(range) => range.to_string_normalized(alloc).map_err(Problem::from),
+        None => Err(Problem::NoValue),
+    }
+}
+
+/// How is the version displayed?
+pub fn displayed_held(alloc: Global, version: Option<&Version>) -> Result<String, Problem>
+    ensures { IsCallOutcome (of_one version_text (option_copied version.entry)) string_bytes result }
+{
+    match version {
+        Some(version) => text_of_version(alloc, version).map_err(Problem::from),
+        None => Err(Problem::NoValue),
+    }
 }
 
 /// Which of the versions match the range?
 pub fn filter_held(
     alloc: Global,
-    list: &VersionList,
-    range: &VersionReq,
+    lines: Option<&[Option<Version>]>,
+    range: Option<&VersionReq>,
     pre_releases: u32,
 ) -> Result<Answer<Vec<Option<bool>>>, Problem>
-    ensures { IsCallAnswer
-        (Is (list_matches (pre_release_by pre_releases) range.now.inner (list_lines list.now)))
+    ensures { IsCallOutcome
+        (of_both (λ lines req. list_matches (pre_release_by pre_releases) req.inner lines)
+        (option_copied lines.entry) (option_copied range.entry))
         (λ answer. list_answer (λ list. list.items) answer) result }
 {
-    let pre_release = pre_release(pre_releases);
-    Ok(list_matches(alloc, pre_release, range, list.lines.as_slice())?)
+    let (Some(lines), Some(range)) = (lines, range) else {
+        return Err(Problem::NoValue);
+    };
+    list_matches(alloc, pre_release(pre_releases), range, lines).map_err(Problem::from)
 }
 
 /// Which of the versions at this end of the order matches the range? Its place is stored.
 pub fn best_held(
     end: End,
-    list: &VersionList,
-    range: &VersionReq,
-    pre_release: PreRelease,
+    lines: Option<&[Option<Version>]>,
+    range: Option<&VersionReq>,
+    pre_releases: u32,
     place: &mut usize,
 ) -> Code
-    ensures { IsListBest end pre_release range.now.inner (list_lines list.now)
+    ensures { IsHeldBest end pre_releases (option_copied lines.entry) (option_copied range.entry)
         place.old place.new result }
 {
+    let (Some(lines), Some(range)) = (lines, range) else {
+        return Code::NoValue;
+    };
     if let Some(_) = range.tag() {
         return Code::Tag;
     }
-    match list_best(end, pre_release, range, list.lines.as_slice()) {
+    match list_best(end, pre_release(pre_releases), range, lines) {
         Some(found) => {
             *place = found;
             Code::Yes
         }
         None => Code::No,
+    }
+}
+
+/// In which order do the versions stand?
+pub fn sorted_held(alloc: Global, lines: Option<&[Option<Version>]>) -> Result<Vec<usize>, Problem>
+    ensures { IsCallAnswer (OfHeld (SortedLines Ascending) (option_copied lines.entry))
+        (λ places. places.items) result }
+{
+    match lines {
+        Some(lines) => sorting::sorted_lines(alloc, lines, Order::Ascending).map_err(Problem::from),
+        None => Err(Problem::NoValue),
     }
 }
 
@@ -544,12 +549,16 @@ pub fn match_code(range: &VersionReq, version: &Version, pre_release: PreRelease
 /// The code of whether the version in the bytes matches the range.
 pub fn matches_held(
     alloc: Global,
-    range: &VersionReq,
+    range: Option<&VersionReq>,
     bytes: &[u8],
     pre_releases: u32,
 ) -> Result<Code, Problem>
-    ensures { IsCallAnswer (MatchesHeld pre_releases range.now bytes.now) (λ code. code) result }
+    ensures { IsCallAnswer (OfHeld (λ req. MatchesHeld pre_releases req bytes.now)
+        (option_copied range.entry)) (λ code. code) result }
 {
+    let Some(range) = range else {
+        return Err(Problem::NoValue);
+    };
     let text = text(bytes)?;
     let version = version(alloc, 0, text)?;
     Ok(match_code(range, &version, pre_release(pre_releases)))

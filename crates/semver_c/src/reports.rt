@@ -3,10 +3,12 @@
 ghost use Rattle.std.specs.Prelude.{◌≡◌, string_bytes};
 ghost use Rattle.answers.specs.Filtering.{list_answer};
 ghost use Rattle.semver_c.specs.Arguments.{call_fault, call_message, call_outcome, problem_place};
+ghost use Rattle.semver_c.specs.Held.{IsHeldReport};
 ghost use Rattle.semver_c.specs.Codes.{IsPlaced, IsReported, IsUntouched, always_yes, best_code, best_place, code_of, fault_code, filter_code, filter_numbers, lowest_code, lowest_text, number_of, or_message, or_nothing, place_after, text_code, text_of};
 
 use crate::arguments::Problem;
 use crate::codes::Code;
+use crate::handles::{Handle, Held};
 use answers::asking::Answer;
 use answers::questions::{Best, text_of_version};
 use deno_semver::Version;
@@ -46,6 +48,27 @@ pub fn report_problem(problem: &Problem, out: &mut [u8], needed: &mut usize) -> 
 {
     put(problem.message(), out, needed);
     problem.code().number()
+}
+
+/// Holds a value in the handle, and reports its text.
+pub fn report_held(
+    alloc: Global,
+    handle: &mut Handle,
+    value: Held,
+    text: &str,
+    out: &mut [u8],
+    needed: &mut usize,
+) -> i32
+    ensures { IsHeldReport value text.now handle.old.value handle.new.value
+        out.old out.new needed.new result }
+{
+    match handle.hold(alloc, value) {
+        Ok(()) => {
+            put(text, out, needed);
+            Code::Yes.number()
+        }
+        Err(error) => report_problem(&Problem::from(error), out, needed),
+    }
 }
 
 /// Reports a text.

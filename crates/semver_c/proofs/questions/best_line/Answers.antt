@@ -1,29 +1,14 @@
-use Rattle.std.proofs.Common.{Ok, refl}
-use Rattle.semver_c.specs.declared.arguments.Problem.TheVariants as problem
-use Rattle.semver_c.proofs.Asking.{by_answer, by_grammar, by_memory, by_no_grammar, by_no_text, by_problem, by_text}
+use Rattle.std.proofs.Common.{refl, rules}
+use Rattle.semver_c.proofs.Asking.{asked, by_memory, within, without}
 use Rattle.semver_c.proofs.questions.best_line.Goals as goal
 
-pub returns-in_err-flavour : goal.returns-in_err-flavour
-returns-in_err-flavour c =
-    by_no_grammar (λ answer. answer) c.args.grammar _ c.from_residual.result c.in_err-flavour.field-0.0 c.from_residual.ensures.1 c.in_err-flavour.ensures
-
-pub returns-in_err-range : goal.returns-in_err-range
-returns-in_err-range c =
-    by_grammar (λ answer. answer) c.args.grammar _ c.in_ok-flavour.flavour c.in_ok-flavour.ensures (c.from_residual-in_err-range.result) (by_no_text (λ answer. answer) c.args.range.now _ c.from_residual-in_err-range.result c.in_err-range.field-0.0 c.from_residual-in_err-range.ensures.1 c.in_err-range.ensures)
-
-pub returns-in_err-versions : goal.returns-in_err-versions
-returns-in_err-versions c =
-    by_grammar (λ answer. answer) c.args.grammar _ c.in_ok-flavour.flavour c.in_ok-flavour.ensures (c.from_residual-in_err-versions.result) (by_text (λ answer. answer) c.args.range.now _ c.in_ok-range.range.now c.in_ok-range.ensures (c.from_residual-in_err-versions.result) (by_no_text (λ answer. answer) c.args.versions.now _ c.from_residual-in_err-versions.result c.in_err-versions.field-0.0 c.from_residual-in_err-versions.ensures.1 c.in_err-versions.ensures))
+pub returns-in_err-given : goal.returns-in_err-given
+returns-in_err-given c = without _ _ (λ x. x) c.from_residual.result _ c.in_err-given.ensures c.from_residual.ensures.1
 
 pub returns-in_err-lines : goal.returns-in_err-lines
 returns-in_err-lines c =
-    by_grammar (λ answer. answer) c.args.grammar _ c.in_ok-flavour.flavour c.in_ok-flavour.ensures (c.from_residual-in_err-lines.result) (by_text (λ answer. answer) c.args.range.now _ c.in_ok-range.range.now c.in_ok-range.ensures (c.from_residual-in_err-lines.result) (by_text (λ answer. answer) c.args.versions.now _ c.in_ok-versions.versions.now c.in_ok-versions.ensures (c.from_residual-in_err-lines.result) (by_memory (λ answer. answer) _ c.from_residual-in_err-lines.result _ c.from_residual-in_err-lines.ensures.1 refl)))
-
-pub returns-in_err-best_match : goal.returns-in_err-best_match
-returns-in_err-best_match c =
-    let why = c.in_err-best_match.field-0.0 in
-    by_grammar (λ answer. answer) c.args.grammar _ c.in_ok-flavour.flavour c.in_ok-flavour.ensures (c.from_residual-in_err-best_match.result) (by_text (λ answer. answer) c.args.range.now _ c.in_ok-range.range.now c.in_ok-range.ensures (c.from_residual-in_err-best_match.result) (by_text (λ answer. answer) c.args.versions.now _ c.in_ok-versions.versions.now c.in_ok-versions.ensures (c.from_residual-in_err-best_match.result) (by_problem (λ answer. answer) _ why (rw (c.as_slice.ensures.value, c.in_ok-lines.ensures, c.pre_release.ensures) at c.in_err-best_match.ensures) c.from_residual-in_err-best_match.result (problem.Unanswered why) c.from_residual-in_err-best_match.ensures.1 refl)))
+    within _ _ (λ x. x) c.from_residual-in_err-lines.result _ c.in_ok-given.ensures (by_memory _ (λ x. x) c.from_residual-in_err-lines.result _ c.from_residual-in_err-lines.ensures.1 refl)
 
 pub returns : goal.returns
 returns c =
-    by_grammar (λ answer. answer) c.args.grammar _ c.in_ok-flavour.flavour c.in_ok-flavour.ensures (Ok c.in_ok-best_match.field-0) (by_text (λ answer. answer) c.args.range.now _ c.in_ok-range.range.now c.in_ok-range.ensures (Ok c.in_ok-best_match.field-0) (by_text (λ answer. answer) c.args.versions.now _ c.in_ok-versions.versions.now c.in_ok-versions.ensures (Ok c.in_ok-best_match.field-0) (by_answer (λ answer. answer) _ (Ok c.in_ok-best_match.field-0) (rw (c.as_slice.ensures.value, c.in_ok-lines.ensures, c.pre_release.ensures) at c.in_ok-best_match.ensures) (Ok c.in_ok-best_match.field-0) refl)))
+    within _ _ (λ x. x) c.map_err.result _ c.in_ok-given.ensures (asked _ (λ x. x) c.map_err.result _ c.best_match.result (rw (c.as_slice.ensures.value, c.in_ok-lines.ensures, c.pre_release-pre_release.ensures) at c.best_match.ensures) c.map_err.ensures.cases (λ e p made. search rules))

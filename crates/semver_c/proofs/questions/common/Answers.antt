@@ -1,25 +1,10 @@
-use Rattle.std.proofs.Common.{Ok, refl}
-use Rattle.semver_c.specs.declared.arguments.Problem.TheVariants as problem
-use Rattle.semver_c.proofs.Asking.{by_answer, by_grammar, by_no_grammar, by_no_text, by_problem, by_text}
+use Rattle.std.proofs.Common.{rules}
+use Rattle.semver_c.proofs.Asking.{asked, within, without}
 use Rattle.semver_c.proofs.questions.common.Goals as goal
 
-pub returns-in_err-flavour : goal.returns-in_err-flavour
-returns-in_err-flavour c =
-    by_no_grammar (λ answer. answer) c.args.grammar _ c.from_residual.result c.in_err-flavour.field-0.0 c.from_residual.ensures.1 c.in_err-flavour.ensures
-
-pub returns-in_err-one : goal.returns-in_err-one
-returns-in_err-one c =
-    by_grammar (λ answer. answer) c.args.grammar _ c.in_ok-flavour.flavour c.in_ok-flavour.ensures (c.from_residual-in_err-one.result) (by_no_text (λ answer. answer) c.args.one.now _ c.from_residual-in_err-one.result c.in_err-one.field-0.0 c.from_residual-in_err-one.ensures.1 c.in_err-one.ensures)
-
-pub returns-in_err-other : goal.returns-in_err-other
-returns-in_err-other c =
-    by_grammar (λ answer. answer) c.args.grammar _ c.in_ok-flavour.flavour c.in_ok-flavour.ensures (c.from_residual-in_err-other.result) (by_text (λ answer. answer) c.args.one.now _ c.in_ok-one.one.now c.in_ok-one.ensures (c.from_residual-in_err-other.result) (by_no_text (λ answer. answer) c.args.other.now _ c.from_residual-in_err-other.result c.in_err-other.field-0.0 c.from_residual-in_err-other.ensures.1 c.in_err-other.ensures))
-
-pub returns-in_err-common_version : goal.returns-in_err-common_version
-returns-in_err-common_version c =
-    let why = c.in_err-common_version.field-0.0 in
-    by_grammar (λ answer. answer) c.args.grammar _ c.in_ok-flavour.flavour c.in_ok-flavour.ensures (c.from_residual-in_err-common_version.result) (by_text (λ answer. answer) c.args.one.now _ c.in_ok-one.one.now c.in_ok-one.ensures (c.from_residual-in_err-common_version.result) (by_text (λ answer. answer) c.args.other.now _ c.in_ok-other.other.now c.in_ok-other.ensures (c.from_residual-in_err-common_version.result) (by_problem (λ answer. answer) _ why (rw (c.pre_release.ensures) at c.in_err-common_version.ensures) c.from_residual-in_err-common_version.result (problem.Unanswered why) c.from_residual-in_err-common_version.ensures.1 refl)))
+pub returns-in_err-given : goal.returns-in_err-given
+returns-in_err-given c = without _ _ (λ x. x) c.from_residual.result _ c.in_err-given.ensures c.from_residual.ensures.1
 
 pub returns : goal.returns
 returns c =
-    by_grammar (λ answer. answer) c.args.grammar _ c.in_ok-flavour.flavour c.in_ok-flavour.ensures (Ok c.in_ok-common_version.field-0) (by_text (λ answer. answer) c.args.one.now _ c.in_ok-one.one.now c.in_ok-one.ensures (Ok c.in_ok-common_version.field-0) (by_text (λ answer. answer) c.args.other.now _ c.in_ok-other.other.now c.in_ok-other.ensures (Ok c.in_ok-common_version.field-0) (by_answer (λ answer. answer) _ (Ok c.in_ok-common_version.field-0) (rw (c.pre_release.ensures) at c.in_ok-common_version.ensures) (Ok c.in_ok-common_version.field-0) refl)))
+    within _ _ (λ x. x) c.map_err.result _ c.in_ok-given.ensures (asked _ (λ x. x) c.map_err.result _ c.common_version.result (rw (c.pre_release-pre_release.ensures) at c.common_version.ensures) c.map_err.ensures.cases (λ e p made. search rules))

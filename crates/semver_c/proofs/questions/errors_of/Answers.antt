@@ -1,21 +1,10 @@
-use Rattle.std.proofs.Common.{Ok, inr, refl, string_bytes}
-use Rattle.semver_c.proofs.Asking.{one_by_grammar, one_by_memory, one_by_no_grammar, one_by_no_text, one_by_text}
-use Rattle.semver_c.specs.Arguments.{called}
-use Rattle.semver_c.specs.Questions.{ErrorsBy}
+use Rattle.std.proofs.Common.{rules, string_bytes}
+use Rattle.semver_c.proofs.Asking.{one_asked_for, one_found, one_within, one_without}
 use Rattle.semver_c.proofs.questions.errors_of.Goals as goal
 
-pub returns-in_err-flavour : goal.returns-in_err-flavour
-returns-in_err-flavour c =
-    one_by_no_grammar string_bytes c.args.grammar _ c.from_residual.result c.in_err-flavour.field-0.0 c.from_residual.ensures.1 c.in_err-flavour.ensures
-
-pub returns-in_err-range : goal.returns-in_err-range
-returns-in_err-range c =
-    one_by_grammar string_bytes c.args.grammar _ c.in_ok-flavour.flavour c.in_ok-flavour.ensures (c.from_residual-in_err-range.result) (one_by_no_text string_bytes c.args.range.now _ c.from_residual-in_err-range.result c.in_err-range.field-0.0 c.from_residual-in_err-range.ensures.1 c.in_err-range.ensures)
-
-pub returns-in_err-errors_of_range : goal.returns-in_err-errors_of_range
-returns-in_err-errors_of_range c =
-    one_by_memory string_bytes (ErrorsBy c.args.grammar c.args.range.now) (c.from_residual-in_err-errors_of_range.result) _ c.from_residual-in_err-errors_of_range.ensures.1 refl
+pub returns-in_err-given : goal.returns-in_err-given
+returns-in_err-given c = one_without _ _ string_bytes c.from_residual.result _ c.in_err-given.ensures c.from_residual.ensures.1
 
 pub returns : goal.returns
 returns c =
-    one_by_grammar string_bytes c.args.grammar _ c.in_ok-flavour.flavour c.in_ok-flavour.ensures (Ok c.in_ok-errors_of_range.field-0) (one_by_text string_bytes c.args.range.now _ c.in_ok-range.range.now c.in_ok-range.ensures (Ok c.in_ok-errors_of_range.field-0) (inr (called (string_bytes c.in_ok-errors_of_range.field-0, c.in_ok-errors_of_range.ensures, refl))))
+    one_within _ _ string_bytes c.map_err.result _ c.in_ok-given.ensures (one_asked_for _ string_bytes c.map_err.result _ c.errors_of_range.result (one_found _ string_bytes c.errors_of_range.result c.errors_of_range.ensures) c.map_err.ensures.cases (λ e p made. search rules))

@@ -1,17 +1,10 @@
-use Rattle.std.proofs.Common.{Ok, refl, string_bytes}
-use Rattle.semver_c.specs.declared.arguments.Problem.TheVariants as problem
-use Rattle.semver_c.proofs.Asking.{by_answer, by_no_text, by_problem, by_text}
+use Rattle.std.proofs.Common.{rules, string_bytes}
+use Rattle.semver_c.proofs.Asking.{asked, within, without}
 use Rattle.semver_c.proofs.questions.name_with_version_of.Goals as goal
 
 pub returns-in_err-text : goal.returns-in_err-text
-returns-in_err-text c =
-    by_no_text string_bytes c.args.bytes.now _ c.from_residual.result c.in_err-text.field-0.0 c.from_residual.ensures.1 c.in_err-text.ensures
-
-pub returns-in_err-name_with_version_parts : goal.returns-in_err-name_with_version_parts
-returns-in_err-name_with_version_parts c =
-    let why = c.in_err-name_with_version_parts.field-0.0 in
-    by_text string_bytes c.args.bytes.now _ c.in_ok-text.text.now c.in_ok-text.ensures (c.from_residual-in_err-name_with_version_parts.result) (by_problem string_bytes _ why c.in_err-name_with_version_parts.ensures c.from_residual-in_err-name_with_version_parts.result (problem.Unanswered why) c.from_residual-in_err-name_with_version_parts.ensures.1 refl)
+returns-in_err-text c = without _ _ string_bytes c.from_residual.result _ c.in_err-text.ensures c.from_residual.ensures.1
 
 pub returns : goal.returns
 returns c =
-    by_text string_bytes c.args.bytes.now _ c.in_ok-text.text.now c.in_ok-text.ensures (Ok c.in_ok-name_with_version_parts.field-0) (by_answer string_bytes _ (Ok (string_bytes c.in_ok-name_with_version_parts.field-0)) c.in_ok-name_with_version_parts.ensures (Ok c.in_ok-name_with_version_parts.field-0) refl)
+    within _ _ string_bytes c.map_err.result _ c.in_ok-text.ensures (asked _ string_bytes c.map_err.result _ c.name_with_version_parts.result c.name_with_version_parts.ensures c.map_err.ensures.cases (λ e p made. search rules))

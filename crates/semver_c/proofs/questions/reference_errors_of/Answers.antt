@@ -1,16 +1,10 @@
-use Rattle.std.proofs.Common.{Ok, inr, refl, string_bytes}
-use Rattle.semver_c.proofs.Asking.{one_by_memory, one_by_no_text, one_by_text}
-use Rattle.semver_c.specs.Arguments.{called}
-use Rattle.semver_c.specs.Questions.{ReferenceErrorsOf}
+use Rattle.std.proofs.Common.{rules, string_bytes}
+use Rattle.semver_c.proofs.Asking.{one_asked_for, one_found, one_within, one_without}
 use Rattle.semver_c.proofs.questions.reference_errors_of.Goals as goal
 
-pub returns-in_err-reference : goal.returns-in_err-reference
-returns-in_err-reference c = one_by_no_text string_bytes c.args.reference.now _ c.from_residual.result c.in_err-reference.field-0.0 c.from_residual.ensures.1 c.in_err-reference.ensures
-
-pub returns-in_err-reference_errors_text : goal.returns-in_err-reference_errors_text
-returns-in_err-reference_errors_text c =
-    one_by_memory string_bytes (ReferenceErrorsOf c.args.reference.now) (c.from_residual-in_err-reference_errors_text.result) _ c.from_residual-in_err-reference_errors_text.ensures.1 refl
+pub returns-in_err-text : goal.returns-in_err-text
+returns-in_err-text c = one_without _ _ string_bytes c.from_residual.result _ c.in_err-text.ensures c.from_residual.ensures.1
 
 pub returns : goal.returns
 returns c =
-    one_by_text string_bytes c.args.reference.now _ c.in_ok-reference.reference.now c.in_ok-reference.ensures (Ok c.in_ok-reference_errors_text.field-0) (inr (called (string_bytes c.in_ok-reference_errors_text.field-0, c.in_ok-reference_errors_text.ensures, refl)))
+    one_within _ _ string_bytes c.map_err.result _ c.in_ok-text.ensures (one_asked_for _ string_bytes c.map_err.result _ c.reference_errors_text.result (one_found _ string_bytes c.reference_errors_text.result c.reference_errors_text.ensures) c.map_err.ensures.cases (λ e p made. search rules))
