@@ -3,10 +3,10 @@
 #include <stdio.h>
 #include <string.h>
 
-#define TEXT(s) (const uint8_t *)(s), strlen(s)
+#define TEXT(s) (s), strlen(s)
 
 int main(void) {
-    uint8_t out[64];
+    char out[64];
     size_t needed;
     int32_t code = semver_fits(SEMVER_NPM, TEXT("^1.2"), TEXT("1.3.0"), SEMVER_RESTRICTED, out, sizeof out, &needed);
     puts(code == SEMVER_YES ? "yes" : "no");

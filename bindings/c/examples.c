@@ -4,12 +4,12 @@
 #include <stdio.h>
 #include <string.h>
 
-#define TEXT(s) (const uint8_t *)(s), strlen(s)
+#define TEXT(s) (s), strlen(s)
 
 long heap_alive(void), heap_limit(long allocations); /* of heap.c */
 
 static int failed;
-static uint8_t out[256];
+static char out[256];
 static size_t needed;
 
 static void is(const char *what, int holds) {

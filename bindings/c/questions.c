@@ -12,7 +12,7 @@
 enum { US = 0x1f, GS = 0x1d, RS = 0x1e, FIELDS = 5, LINES = 16, NUMBERS = 3 };
 
 typedef struct {
-    const uint8_t *at;
+    const char *at;
     size_t len;
 } text;
 
@@ -24,7 +24,7 @@ long heap_alive(void), heap_limit(long allocations); /* of heap.c */
 static text row, expected;
 static uint32_t grammar, pre_releases;
 static int memory_is_short, failed;
-static uint8_t out[4096];
+static char out[4096];
 static size_t needed;
 
 static int is(text t, const char *name) {
@@ -33,7 +33,7 @@ static int is(text t, const char *name) {
 
 /* The part of a text before the first mark, or all of it. */
 static text before(text t, int mark) {
-    const uint8_t *end = memchr(t.at, mark, t.len);
+    const char *end = memchr(t.at, mark, t.len);
     return (text){t.at, end ? (size_t)(end - t.at) : t.len};
 }
 
@@ -73,16 +73,16 @@ static int is_invalid(int32_t code) {
 
 /* Compares an answer with the expected one: the name of its code, then what the call wrote. Where a call writes nothing, the name
  * alone is compared. */
-static void check(int32_t code, names of, const void *written, size_t len) {
+static void check(int32_t code, names of, const char *written, size_t len) {
     static char answer[sizeof out + 32];
     if (memory_is_short && code == SEMVER_NO_MEMORY) return;
     text wanted = expected;
     if (!written) wanted = before(wanted, US);
     else if (is_invalid(code)) wanted.len = before(wanted, US).len + 1 + before(behind(wanted), US).len;
-    int got = written && len ? sprintf(answer, "%s\x1f%.*s", name_of(code, of), (int)len, (const char *)written)
+    int got = written && len ? sprintf(answer, "%s\x1f%.*s", name_of(code, of), (int)len, written)
                              : sprintf(answer, "%s", name_of(code, of));
     if ((size_t)got == wanted.len && memcmp(answer, wanted.at, wanted.len) == 0) return;
-    printf("%.*s: %s\n", (int)row.len, (const char *)row.at, answer);
+    printf("%.*s: %s\n", (int)row.len, row.at, answer);
     failed = 1;
 }
 
@@ -92,10 +92,10 @@ static void check_place(int32_t code, size_t place) {
     char number[24];
     size_t len = sprintf(number, "%zu", place);
     text wanted = behind(behind(expected));
-    if (code == SEMVER_NO_MEMORY && memory_is_short) wanted = (text){(const uint8_t *)"99", 2};
-    else if (!is_invalid(code)) wanted = (text){(const uint8_t *)"99", 2};
+    if (code == SEMVER_NO_MEMORY && memory_is_short) wanted = (text){"99", 2};
+    else if (!is_invalid(code)) wanted = (text){"99", 2};
     if (wanted.len == len && memcmp(wanted.at, number, len) == 0) return;
-    printf("%.*s: the place is %s\n", (int)row.len, (const char *)row.at, number);
+    printf("%.*s: the place is %s\n", (int)row.len, row.at, number);
     failed = 1;
 }
 
@@ -134,7 +134,7 @@ static void fits(const text *t) {
 
 /* Writes an item of a list behind others of this length in `out`, and returns the new length. */
 static size_t item(size_t len, const char *name) {
-    return len + sprintf((char *)out + len, len ? "\x1f%s" : "%s", name);
+    return len + sprintf(out + len, len ? "\x1f%s" : "%s", name);
 }
 
 static int8_t answers[LINES];
@@ -153,7 +153,7 @@ static int read_list(text t, semver_list *list) {
 }
 
 static void check_match(int32_t code, size_t place) {
-    check(code, FIT, code == SEMVER_YES ? out : NULL, sprintf((char *)out, "%zu", place));
+    check(code, FIT, code == SEMVER_YES ? out : NULL, sprintf(out, "%zu", place));
     if (code != SEMVER_YES) check_place(code, place);
 }
 
@@ -339,7 +339,7 @@ static void may_be_tag(const text *t) {
 static void check_field(int32_t code, text wanted) {
     if (memory_is_short && code == SEMVER_NO_MEMORY) return;
     if (code == SEMVER_YES && needed == wanted.len && memcmp(out, wanted.at, wanted.len) == 0) return;
-    printf("%.*s: %.*s\n", (int)row.len, (const char *)row.at, (int)needed, (const char *)out);
+    printf("%.*s: %.*s\n", (int)row.len, row.at, (int)needed, out);
     failed = 1;
 }
 
@@ -368,13 +368,13 @@ static const struct call {
     const char *name;
     int options;
     void (*ask)(const text *t);
-    int32_t (*text)(const uint8_t *, size_t, uint8_t *, size_t, size_t *);
-    int32_t (*req)(uint32_t, const uint8_t *, size_t, uint8_t *, size_t, size_t *);
+    int32_t (*text)(const char *, size_t, char *, size_t, size_t *);
+    int32_t (*req)(uint32_t, const char *, size_t, char *, size_t, size_t *);
     names of; /* what held_reqs returns */
     int32_t (*held_reqs)(semver_req *, semver_req *);
     int32_t (*held_versions)(semver_ver *, semver_ver *);
-    int32_t (*held_req)(semver_req *, uint8_t *, size_t, size_t *);
-    int32_t (*held_version)(semver_ver *, uint8_t *, size_t, size_t *);
+    int32_t (*held_req)(semver_req *, char *, size_t, size_t *);
+    int32_t (*held_version)(semver_ver *, char *, size_t, size_t *);
 } CALLS[] = {
     {"fits", 2, .ask = fits},
     {"filter", 2, .ask = filter},
@@ -483,7 +483,7 @@ static void ask_row(void) {
 }
 
 int main(int count, char **arguments) {
-    static uint8_t table[1 << 17];
+    static char table[1 << 17];
     FILE *file = count == 2 ? fopen(arguments[1], "rb") : NULL;
     text rest = {table, file ? fread(table, 1, sizeof table, file) : 0};
     int rows = 0;

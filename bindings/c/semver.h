@@ -1,6 +1,6 @@
 /* deno_semver, proved: its calls from C.
  *
- * A text is bytes in UTF-8 and a length. For every call:
+ * A text is bytes in UTF-8 and a length; no call looks for a 0 byte behind it, or writes one. For every call:
  * - A pointer is never null, even with length 0. What it points to lives, and doesn't change, while the call runs.
  * - `out`, `answers`, `places`, `numbers`, `needed`, `place` and the handles must not alias one another or any other argument.
  * - No call keeps a pointer that it is given. Several threads may call at once, each with memory and handles of its own;
@@ -64,107 +64,107 @@ enum {
 /* ---- versions and ranges, from texts */
 
 /* Whether the version matches the range: NO, YES or TAG. */
-int32_t semver_fits(uint32_t grammar, const uint8_t *range, size_t range_len,
-                    const uint8_t *version, size_t version_len, uint32_t pre_releases,
-                    uint8_t *out, size_t out_len, size_t *needed);
+int32_t semver_fits(uint32_t grammar, const char *range, size_t range_len,
+                    const char *version, size_t version_len, uint32_t pre_releases,
+                    char *out, size_t out_len, size_t *needed);
 
 /* Which versions of a list, one per line, match the range: YES or TAG. With YES `answers[n]` is the answer of line n, NO, YES or
  * INVALID_VERSION, and `*needed` is the number of lines, else 0. If there are more than `answers_len`, `answers` stays as it was;
  * it does for any code but YES, too. */
-int32_t semver_filter(uint32_t grammar, const uint8_t *range, size_t range_len,
-                      const uint8_t *versions, size_t versions_len, uint32_t pre_releases,
+int32_t semver_filter(uint32_t grammar, const char *range, size_t range_len,
+                      const char *versions, size_t versions_len, uint32_t pre_releases,
                       int8_t *answers, size_t answers_len, size_t *needed);
 
 /* Which of several versions, one per line, is the highest that matches the range, the first of equal ones: YES, and `*place` is its
  * line, counted from 0; NO, if none matches; or TAG. With INVALID_VERSION `*place` is the line, with INVALID_RANGE 0. */
-int32_t semver_best(uint32_t grammar, const uint8_t *range, size_t range_len,
-                    const uint8_t *versions, size_t versions_len, uint32_t pre_releases, size_t *place);
+int32_t semver_best(uint32_t grammar, const char *range, size_t range_len,
+                    const char *versions, size_t versions_len, uint32_t pre_releases, size_t *place);
 
 /* The lowest that matches, the first of equal ones: like semver_best. */
-int32_t semver_lowest(uint32_t grammar, const uint8_t *range, size_t range_len,
-                      const uint8_t *versions, size_t versions_len, uint32_t pre_releases, size_t *place);
+int32_t semver_lowest(uint32_t grammar, const char *range, size_t range_len,
+                      const char *versions, size_t versions_len, uint32_t pre_releases, size_t *place);
 
 /* The places of several versions, one per line, in the order of precedence: YES. `places[0]` is the line of the lowest, counted from
  * 0, versions that differ only in the build keep their order, and `*needed` is the number of lines. If there are more than
  * `places_len`, `places` stays as it was. */
-int32_t semver_sort(const uint8_t *versions, size_t versions_len, size_t *places, size_t places_len, size_t *needed,
+int32_t semver_sort(const char *versions, size_t versions_len, size_t *places, size_t places_len, size_t *needed,
                     size_t *place);
 
 /* The order of two versions, builds aside: BEFORE, if the first is before the other, SAME or AFTER. */
-int32_t semver_compare(const uint8_t *one, size_t one_len, const uint8_t *other, size_t other_len, size_t *place);
+int32_t semver_compare(const char *one, size_t one_len, const char *other, size_t other_len, size_t *place);
 
 /* Whether two ranges overlap by their bounds: NO or YES. Two tags do if they are the same, a tag and versions never. */
-int32_t semver_overlap(uint32_t grammar, const uint8_t *one, size_t one_len, const uint8_t *other, size_t other_len,
+int32_t semver_overlap(uint32_t grammar, const char *one, size_t one_len, const char *other, size_t other_len,
                        size_t *place);
 
 /* Whether the other range matches each version that the first one matches: YES; NO, with the text of the lowest version that
  * it doesn't; or TAG. */
-int32_t semver_within(uint32_t grammar, const uint8_t *one, size_t one_len, const uint8_t *other, size_t other_len,
-                      uint32_t pre_releases, uint8_t *out, size_t out_len, size_t *needed, size_t *place);
+int32_t semver_within(uint32_t grammar, const char *one, size_t one_len, const char *other, size_t other_len,
+                      uint32_t pre_releases, char *out, size_t out_len, size_t *needed, size_t *place);
 
 /* Whether two ranges match the same versions: NO, YES or TAG. */
-int32_t semver_equivalent(uint32_t grammar, const uint8_t *one, size_t one_len, const uint8_t *other, size_t other_len,
+int32_t semver_equivalent(uint32_t grammar, const char *one, size_t one_len, const char *other, size_t other_len,
                           uint32_t pre_releases, size_t *place);
 
 /* The lowest version that both ranges match: YES, with its text; NO, if there is none; or TAG. */
-int32_t semver_common(uint32_t grammar, const uint8_t *one, size_t one_len, const uint8_t *other, size_t other_len,
-                      uint32_t pre_releases, uint8_t *out, size_t out_len, size_t *needed, size_t *place);
+int32_t semver_common(uint32_t grammar, const char *one, size_t one_len, const char *other, size_t other_len,
+                      uint32_t pre_releases, char *out, size_t out_len, size_t *needed, size_t *place);
 
 /* The lowest version that all ranges match, one per line: like semver_common; NO, if there is no line. */
-int32_t semver_common_all(uint32_t grammar, const uint8_t *ranges, size_t ranges_len, uint32_t pre_releases,
-                          uint8_t *out, size_t out_len, size_t *needed, size_t *place);
+int32_t semver_common_all(uint32_t grammar, const char *ranges, size_t ranges_len, uint32_t pre_releases,
+                          char *out, size_t out_len, size_t *needed, size_t *place);
 
 /* The lowest version that the range matches: YES, with its text; NO, if there is none; or TAG. */
-int32_t semver_min_version(uint32_t grammar, const uint8_t *range, size_t range_len, uint32_t pre_releases,
-                           uint8_t *out, size_t out_len, size_t *needed);
+int32_t semver_min_version(uint32_t grammar, const char *range, size_t range_len, uint32_t pre_releases,
+                           char *out, size_t out_len, size_t *needed);
 
 /* The canonical form of the range: YES. That of a tag is the tag. */
-int32_t semver_normal(uint32_t grammar, const uint8_t *range, size_t range_len,
-                      uint8_t *out, size_t out_len, size_t *needed);
+int32_t semver_normal(uint32_t grammar, const char *range, size_t range_len,
+                      char *out, size_t out_len, size_t *needed);
 
 /* Whether the range is a tag: NO or YES. */
-int32_t semver_is_tag(uint32_t grammar, const uint8_t *range, size_t range_len, uint8_t *out, size_t out_len, size_t *needed);
+int32_t semver_is_tag(uint32_t grammar, const char *range, size_t range_len, char *out, size_t out_len, size_t *needed);
 
 /* How the version is displayed: YES. */
-int32_t semver_version(const uint8_t *version, size_t version_len, uint8_t *out, size_t out_len, size_t *needed);
+int32_t semver_version(const char *version, size_t version_len, char *out, size_t out_len, size_t *needed);
 
 /* The three numbers of a version: YES, if it has neither a pre-release nor a build, or NO, if it has one; then `*needed` is 3, else 0.
  * `numbers` stays as it was if `numbers_len` is less than 3, and for any other code. */
-int32_t semver_version_numbers(const uint8_t *version, size_t version_len, uint64_t *numbers, size_t numbers_len, size_t *needed);
+int32_t semver_version_numbers(const char *version, size_t version_len, uint64_t *numbers, size_t numbers_len, size_t *needed);
 
 /* Whether the text may be the tag of a version, by npm's rules: NO or YES. */
-int32_t semver_may_be_tag(const uint8_t *text, size_t text_len);
+int32_t semver_may_be_tag(const char *text, size_t text_len);
 
 /* The ranges of a range, in the order in which they stand, as JSON: YES or TAG. Each has the members "end" and "start", its bounds: null,
  * or an object with "inclusive", whether the version itself lies within it, and "version". */
-int32_t semver_ranges(uint32_t grammar, const uint8_t *range, size_t range_len, uint8_t *out, size_t out_len, size_t *needed);
+int32_t semver_ranges(uint32_t grammar, const char *range, size_t range_len, char *out, size_t out_len, size_t *needed);
 
 /* What a range means, as JSON: YES or TAG. The members are "alternatives", in the order in which they stand, and "normal", the canonical
  * form. An alternative has "text", without the whitespace around it. If it is invalid, and so left out, it has "error", as of
  * semver_errors; else "end" and "start", as of semver_ranges, "lowest", the lowest version that it matches or null, and "pre-releases",
  * an array of the three numbers of which pre-releases match, or "all". */
-int32_t semver_explain(uint32_t grammar, const uint8_t *range, size_t range_len, uint32_t pre_releases,
-                       uint8_t *out, size_t out_len, size_t *needed);
+int32_t semver_explain(uint32_t grammar, const char *range, size_t range_len, uint32_t pre_releases,
+                       char *out, size_t out_len, size_t *needed);
 
 /* What is wrong with a range, as JSON: YES, with an array of its invalid alternatives, in the order in which they stand. Each has "message",
  * "start", the index of the byte at which it goes wrong, "end", where it ends, and "expected", what could be at "start": "digit",
  * "letter", "whitespace", "end", or a text such as ".". A tag isn't a range, so it is one, too. By the strict grammar the one alternative is
  * the text. */
-int32_t semver_errors(uint32_t grammar, const uint8_t *range, size_t range_len, uint8_t *out, size_t out_len, size_t *needed);
+int32_t semver_errors(uint32_t grammar, const char *range, size_t range_len, char *out, size_t out_len, size_t *needed);
 
 /* Where a text stops being a version: YES, and `*place` is the index of the byte at which no version goes on like this. For a version,
  * and for a text that only stops too early, that is its length. */
-int32_t semver_version_error(const uint8_t *version, size_t version_len, size_t *place);
+int32_t semver_version_error(const char *version, size_t version_len, size_t *place);
 
 /* The parts of a version, as JSON: YES. "major", "minor" and "patch" are texts, and "build" and "pre" are arrays of texts. */
-int32_t semver_version_parts(const uint8_t *version, size_t version_len, uint8_t *out, size_t out_len, size_t *needed);
+int32_t semver_version_parts(const char *version, size_t version_len, char *out, size_t out_len, size_t *needed);
 
 /* ---- packages, from texts: JSON without whitespace between its parts, with the members in the order given here */
 
 /* The parts of a package with a range, such as @scope/name@^1.2: YES. The members are "name", without its scope, "normal", the
  * canonical form of the range, "requirement", the text it was parsed from, and "scope", without its @ or null. The grammar is that
  * of the range. */
-int32_t semver_package(uint32_t grammar, const uint8_t *text, size_t text_len, uint8_t *out, size_t out_len, size_t *needed);
+int32_t semver_package(uint32_t grammar, const char *text, size_t text_len, char *out, size_t out_len, size_t *needed);
 
 /* Why the text of a package (SEMVER_PACKAGE) or of a reference (SEMVER_REFERENCE) is invalid: YES; or NO, if it is valid. The members are
  * "kind", "message", the error message of semver_package or semver_reference, "snippet", the part of the text that is wrong or null, and
@@ -172,35 +172,35 @@ int32_t semver_package(uint32_t grammar, const uint8_t *text, size_t text_len, u
  * "SpecifierVersionReq", "NpmVersionReq" and "NormalizedVersionReq"; for a reference also "NotExpectedScheme" and
  * "InvalidPathWithVersion", the one that has a suggested text. The grammar is that of a package's range. The range of a reference has the
  * strict one, whichever is given. */
-int32_t semver_why(uint32_t what, uint32_t grammar, const uint8_t *text, size_t text_len, uint8_t *out, size_t out_len, size_t *needed);
+int32_t semver_why(uint32_t what, uint32_t grammar, const char *text, size_t text_len, char *out, size_t out_len, size_t *needed);
 
 /* The parts of a reference to a package, such as jsr:@scope/name@1/mod.ts: YES. The members are "export", the export of a JSR
  * package and else null, "kind", "jsr" or "npm", "package", as of semver_package, and "path" or null. The grammar of its range is the
  * strict one. */
-int32_t semver_reference(const uint8_t *text, size_t text_len, uint8_t *out, size_t out_len, size_t *needed);
+int32_t semver_reference(const char *text, size_t text_len, char *out, size_t out_len, size_t *needed);
 
 /* What is wrong with a package, or with a reference, as JSON: YES, with an array as of semver_errors, for the range of a valid text or an
  * invalid range; the indexes are those of the whole text. Any other error is the only one: "end" is the text's length, "message" that of
  * semver_package or semver_reference, and "expected" has the part that is missing at "start": "@", "/", "name", or "jsr:" and "npm:". It is
  * empty for a path that isn't allowed, and for a version in the path. */
-int32_t semver_package_errors(uint32_t grammar, const uint8_t *text, size_t text_len, uint8_t *out, size_t out_len, size_t *needed);
+int32_t semver_package_errors(uint32_t grammar, const char *text, size_t text_len, char *out, size_t out_len, size_t *needed);
 
-int32_t semver_reference_errors(const uint8_t *text, size_t text_len, uint8_t *out, size_t out_len, size_t *needed);
+int32_t semver_reference_errors(const char *text, size_t text_len, char *out, size_t out_len, size_t *needed);
 
 /* The parts of a name with a version, such as @scope/name@1.2.3: YES. The members are "name", without its scope, "scope", without its
  * @ or null, and "version". */
-int32_t semver_name_with_version(const uint8_t *text, size_t text_len, uint8_t *out, size_t out_len, size_t *needed);
+int32_t semver_name_with_version(const char *text, size_t text_len, char *out, size_t out_len, size_t *needed);
 
 /* The parts of a reference to one version of a package, such as jsr:@scope/name@1.2.3/mod.ts: YES. The members are "export", "kind" and
  * "path", as of semver_reference, and "package", as of semver_name_with_version. */
-int32_t semver_version_reference(const uint8_t *text, size_t text_len, uint8_t *out, size_t out_len, size_t *needed);
+int32_t semver_version_reference(const char *text, size_t text_len, char *out, size_t out_len, size_t *needed);
 
 /* The parts of a dependency, such as jsr:@scope/name@^1.2 or npm:name@1: YES. The members are "kind", "jsr" or "npm", "normal", the
  * canonical form of the whole text, and "package", as of semver_package. The grammar is that of the range. */
-int32_t semver_dependency(uint32_t grammar, const uint8_t *text, size_t text_len, uint8_t *out, size_t out_len, size_t *needed);
+int32_t semver_dependency(uint32_t grammar, const char *text, size_t text_len, char *out, size_t out_len, size_t *needed);
 
 /* The name of the export that the path of a module in a JSR package means, such as ./mod.ts: YES. */
-int32_t semver_export_name(const uint8_t *path, size_t path_len, uint8_t *out, size_t out_len, size_t *needed);
+int32_t semver_export_name(const char *path, size_t path_len, char *out, size_t out_len, size_t *needed);
 
 /* ---- values that are held across calls
  *
@@ -220,17 +220,17 @@ typedef struct {
 } semver_list;
 
 /* Parses a range into a handle that has none: YES, with its canonical form, or the tag. For any other code it still has none. */
-int32_t semver_req_read(uint32_t grammar, const uint8_t *text, size_t text_len, semver_req *handle,
-                        uint8_t *out, size_t out_len, size_t *needed);
+int32_t semver_req_read(uint32_t grammar, const char *text, size_t text_len, semver_req *handle,
+                        char *out, size_t out_len, size_t *needed);
 
 /* Parses a package with a range, such as @scope/name@^1.2: YES, with its name, and the handle, which has none, gets the range. The grammar
  * is that of the range. For any other code the handle still has none. */
-int32_t semver_package_read(uint32_t grammar, const uint8_t *text, size_t text_len, semver_req *handle,
-                            uint8_t *out, size_t out_len, size_t *needed);
+int32_t semver_package_read(uint32_t grammar, const char *text, size_t text_len, semver_req *handle,
+                            char *out, size_t out_len, size_t *needed);
 
 /* Parses a version into a handle that has none: YES, with its text as displayed. For any other code it still has none. */
-int32_t semver_version_read(const uint8_t *text, size_t text_len, semver_ver *handle,
-                            uint8_t *out, size_t out_len, size_t *needed);
+int32_t semver_version_read(const char *text, size_t text_len, semver_ver *handle,
+                            char *out, size_t out_len, size_t *needed);
 
 /* Frees the value of a handle that has one; it has none then. */
 void semver_req_free(semver_req *handle);
@@ -242,7 +242,7 @@ void semver_version_free(semver_ver *handle);
 int32_t semver_req_is_tag(semver_req *handle);
 
 /* Whether a version from a text matches the range: as semver_fits. */
-int32_t semver_req_fits(semver_req *range, const uint8_t *version, size_t version_len, uint32_t pre_releases);
+int32_t semver_req_fits(semver_req *range, const char *version, size_t version_len, uint32_t pre_releases);
 
 /* Whether the version matches the range: NO, YES or TAG. */
 int32_t semver_req_matches(semver_req *range, semver_ver *version, uint32_t pre_releases);
@@ -263,11 +263,11 @@ int32_t semver_req_equal(semver_req *one, semver_req *other);
 int32_t semver_req_order(semver_req *one, semver_req *other);
 
 /* The text that the range was parsed from: YES. Without the whitespace around it, if it was parsed by npm's grammar. */
-int32_t semver_req_text(semver_req *handle, uint8_t *out, size_t out_len, size_t *needed);
+int32_t semver_req_text(semver_req *handle, char *out, size_t out_len, size_t *needed);
 
 /* The canonical form of the range, and how the version is displayed: YES, or NO_MEMORY. */
-int32_t semver_req_normal(semver_req *handle, uint8_t *out, size_t out_len, size_t *needed);
-int32_t semver_version_text(semver_ver *handle, uint8_t *out, size_t out_len, size_t *needed);
+int32_t semver_req_normal(semver_req *handle, char *out, size_t out_len, size_t *needed);
+int32_t semver_version_text(semver_ver *handle, char *out, size_t out_len, size_t *needed);
 
 /* The order of two versions: as semver_compare. The handles are two. */
 int32_t semver_version_compare(semver_ver *one, semver_ver *other);
@@ -277,7 +277,7 @@ int32_t semver_version_order(semver_ver *one, semver_ver *other);
 
 /* Parses versions, one per line, into a handle that has none: YES, and `*lines` is the number of lines. A line that isn't a version keeps
  * its place and matches nothing. For any other code, NOT_UTF8 or NO_MEMORY, the handle still has none, and `*lines` stays as it was. */
-int32_t semver_list_read(const uint8_t *versions, size_t versions_len, semver_list *handle, size_t *lines);
+int32_t semver_list_read(const char *versions, size_t versions_len, semver_list *handle, size_t *lines);
 
 /* Frees the versions of a handle that has some; it has none then. */
 void semver_list_free(semver_list *handle);

@@ -7,9 +7,9 @@
 
 enum { VERSIONS = 100000, PASSES = 7 };
 
-static const uint8_t *starts[VERSIONS];
+static const char *starts[VERSIONS];
 static size_t lens[VERSIONS], list_len, needed;
-static uint8_t *list, text[64];
+static char *list, text[64];
 static int8_t answers[VERSIONS];
 static semver_ver held[VERSIONS];
 
@@ -21,28 +21,28 @@ static double now(void) {
 
 static void make_versions(void) {
     char *at = malloc(VERSIONS * 24);
-    list = (uint8_t *)at;
+    list = at;
     for (int i = 0; i < VERSIONS; i++) {
-        starts[i] = (uint8_t *)at;
+        starts[i] = at;
         lens[i] = sprintf(at, i % 3 ? "%d.%d.%d" : "%d.%d.%d-rc.%d", i % 7, i % 31, i % 101, i % 5);
         semver_version_read(starts[i], lens[i], &held[i], text, 0, &needed);
         at += lens[i];
         *at++ = '\n';
     }
-    list_len = at - (char *)list;
+    list_len = at - list;
 }
 
 static int each_text(const char *req) {
     int sum = 0;
     for (int i = 0; i < VERSIONS; i++)
-        sum += semver_fits(SEMVER_NPM, (const uint8_t *)req, strlen(req), starts[i], lens[i], SEMVER_RESTRICTED, text, 0, &needed);
+        sum += semver_fits(SEMVER_NPM, req, strlen(req), starts[i], lens[i], SEMVER_RESTRICTED, text, 0, &needed);
     return sum;
 }
 
 static int each_by_handle(const char *req) {
     int sum = 0;
     semver_req r = {0};
-    semver_req_read(SEMVER_NPM, (const uint8_t *)req, strlen(req), &r, text, 0, &needed);
+    semver_req_read(SEMVER_NPM, req, strlen(req), &r, text, 0, &needed);
     for (int i = 0; i < VERSIONS; i++) sum += semver_req_fits(&r, starts[i], lens[i], SEMVER_RESTRICTED);
     semver_req_free(&r);
     return sum;
@@ -51,7 +51,7 @@ static int each_by_handle(const char *req) {
 static int both_by_handle(const char *req) {
     int sum = 0;
     semver_req r = {0};
-    semver_req_read(SEMVER_NPM, (const uint8_t *)req, strlen(req), &r, text, 0, &needed);
+    semver_req_read(SEMVER_NPM, req, strlen(req), &r, text, 0, &needed);
     for (int i = 0; i < VERSIONS; i++) sum += semver_req_matches(&r, &held[i], SEMVER_RESTRICTED);
     semver_req_free(&r);
     return sum;
@@ -59,7 +59,7 @@ static int both_by_handle(const char *req) {
 
 static int one_call(const char *req) {
     int sum = 0;
-    semver_filter(SEMVER_NPM, (const uint8_t *)req, strlen(req), list, list_len, SEMVER_RESTRICTED, answers, VERSIONS, &needed);
+    semver_filter(SEMVER_NPM, req, strlen(req), list, list_len, SEMVER_RESTRICTED, answers, VERSIONS, &needed);
     for (int i = 0; i < VERSIONS; i++) sum += answers[i];
     return sum;
 }

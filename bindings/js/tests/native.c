@@ -107,7 +107,7 @@ static int32_t ask(void) {
     return ask_held();
 }
 
-static void answer(const uint8_t *texts) {
+static void answer(const char *texts) {
     a = asked->lengths[0];
     b = asked->lengths[1];
     if (!wasm_input(a + b)) abort();
@@ -121,7 +121,7 @@ static void answer(const uint8_t *texts) {
 }
 
 int main(int count, char **arguments) {
-    static uint8_t texts[1 << 22];
+    static char texts[1 << 22];
     static question q;
     FILE *file = count == 2 ? fopen(arguments[1], "rb") : NULL;
     asked = &q;

@@ -16,11 +16,11 @@ typedef uintptr_t address;
 #endif
 
 typedef struct {
-    uint8_t *at;
+    char *at;
     size_t room, len;
 } buffer;
 
-static _Alignas(16) uint8_t first_input[1024], first_output[1024]; /* aligned as blocks of the heap are */
+static _Alignas(16) char first_input[1024], first_output[1024]; /* aligned as blocks of the heap are */
 static buffer input = {first_input, sizeof first_input, 0}, output = {first_output, sizeof first_output, 0};
 static size_t found;
 static void *made;
@@ -28,7 +28,7 @@ static void *made;
 /* Makes room for so many bytes. What the buffer holds is lost. */
 static int make_room(buffer *it, size_t size) {
     if (size <= it->room) return 1;
-    uint8_t *larger = heap_take(size);
+    char *larger = heap_take(size);
     if (!larger) return 0;
     if (it->at != first_input && it->at != first_output) heap_free(it->at);
     it->at = larger;
