@@ -371,10 +371,10 @@ static const struct call {
     int32_t (*text)(const char *, size_t, char *, size_t, size_t *);
     int32_t (*req)(uint32_t, const char *, size_t, char *, size_t, size_t *);
     names of; /* what held_reqs returns */
-    int32_t (*held_reqs)(semver_req *, semver_req *);
-    int32_t (*held_versions)(semver_ver *, semver_ver *);
-    int32_t (*held_req)(semver_req *, char *, size_t, size_t *);
-    int32_t (*held_version)(semver_ver *, char *, size_t, size_t *);
+    int32_t (*held_reqs)(const semver_req *, const semver_req *);
+    int32_t (*held_versions)(const semver_ver *, const semver_ver *);
+    int32_t (*held_req)(const semver_req *, char *, size_t, size_t *);
+    int32_t (*held_version)(const semver_ver *, char *, size_t, size_t *);
 } CALLS[] = {
     {"fits", 2, .ask = fits},
     {"filter", 2, .ask = filter},

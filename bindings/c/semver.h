@@ -2,15 +2,15 @@
  *
  * A text is bytes in UTF-8 and a length; no call looks for a 0 byte behind it, or writes one. For every call:
  * - A pointer is never null, even with length 0. What it points to lives, and doesn't change, while the call runs.
- * - `out`, `answers`, `places`, `numbers`, `needed`, `place` and the handles must not alias one another or any other argument.
- * - No call keeps a pointer that it is given. Several threads may call at once, each with memory and handles of its own;
+ * - What a call may write, which it takes without `const`, must not alias any other argument. Two arguments with `const` may be the same.
+ * - No call keeps a pointer that it is given. Several threads may call at once, each with memory of its own for what a call may write;
  *   none may call from a signal handler, nor from a forked child of a program that has threads.
  * - `malloc`, `realloc` and `free` are those of one allocator, and a block is aligned to each power of two up to 16 that
  *   divides its size.
  *
  * A call returns a code: 0 and above is an answer, and a negative one says why there is none. So `semver_fits(..) > 0` is true
- * exactly if the version matches. The grammar's number is checked first, then whether each text is UTF-8, then each text from the
- * left; the first that is invalid decides.
+ * exactly if the version matches. The `const` handles are checked first, then the grammar's number, then whether each text is UTF-8,
+ * then each text from the left; the first that is invalid decides.
  *
  * A text is written to the front of `out` if it fits, and the rest of `out` stays; if it doesn't, `out` stays as it was. Its length
  * is in `*needed` either way, 0 if there is none. With the codes from SEMVER_INVALID_RANGE down the text is an error message. To ask
@@ -58,7 +58,8 @@ enum {
     SEMVER_INVALID_VERSION = -3,
     SEMVER_NOT_UTF8 = -4,        /* bytes aren't valid UTF-8 */
     SEMVER_NO_GRAMMAR = -5,      /* no grammar has this number, or no kind of text (semver_why) */
-    SEMVER_NO_MEMORY = -6        /* out of memory */
+    SEMVER_NO_MEMORY = -6,       /* out of memory */
+    SEMVER_NO_VALUE = -7         /* a handle is empty, or holds a value of another kind */
 };
 
 /* ---- versions and ranges, from texts */
@@ -204,8 +205,13 @@ int32_t semver_export_name(const char *path, size_t path_len, char *out, size_t 
 
 /* ---- values that are held across calls
  *
- * `semver_req r = {0};` has none. Only the calls below write a handle. A handle is used by one thread at a time, is given to a call as
- * one argument only, and isn't copied while it has a value: a copy would be a second owner. */
+ * `semver_req r = {0};` is an empty handle: zero each before its first call. The calls that end in _read put a value into a handle, and
+ * those that end in _free free it. No other code may write a handle, nor copy one that holds a value: the copy would be a second owner.
+ *
+ * A call that takes a handle with `const` only reads the handle and its value, in place. So it may be given one handle twice, and several
+ * threads may ask one handle at once, as long as none reads into it or frees it. If a handle is empty, or holds a value of another kind,
+ * the code is NO_VALUE: a call that writes a text writes the error message, one that writes a list stores 0 in `*needed`, and all else
+ * stays as it was. */
 typedef struct {
     void *at;
 } semver_req;
@@ -219,83 +225,81 @@ typedef struct {
     void *at;
 } semver_list;
 
-/* Parses a range into a handle that has none: YES, with its canonical form, or the tag. For any other code it still has none. */
+/* Parses a range into a handle: YES, with its canonical form, or the tag. A value that the handle held before is freed then; for any
+ * other code the handle stays as it was. */
 int32_t semver_req_read(uint32_t grammar, const char *text, size_t text_len, semver_req *handle,
                         char *out, size_t out_len, size_t *needed);
 
-/* Parses a package with a range, such as @scope/name@^1.2: YES, with its name, and the handle, which has none, gets the range. The grammar
- * is that of the range. For any other code the handle still has none. */
+/* Parses a package with a range, such as @scope/name@^1.2: YES, with its name, and the range is read into the handle, as by
+ * semver_req_read. The grammar is that of the range. */
 int32_t semver_package_read(uint32_t grammar, const char *text, size_t text_len, semver_req *handle,
                             char *out, size_t out_len, size_t *needed);
 
-/* Parses a version into a handle that has none: YES, with its text as displayed. For any other code it still has none. */
+/* Parses a version into a handle, as semver_req_read does a range: YES, with its text as displayed. */
 int32_t semver_version_read(const char *text, size_t text_len, semver_ver *handle,
                             char *out, size_t out_len, size_t *needed);
 
-/* Frees the value of a handle that has one; it has none then. */
+/* Frees the value that a handle holds, if it isn't empty. It is empty then, so that to free it again does nothing. */
 void semver_req_free(semver_req *handle);
 void semver_version_free(semver_ver *handle);
 
-/* The handles of the calls below have a value, which stays. */
-
 /* Whether the range is a tag: NO or YES. */
-int32_t semver_req_is_tag(semver_req *handle);
+int32_t semver_req_is_tag(const semver_req *handle);
 
 /* Whether a version from a text matches the range: as semver_fits. */
-int32_t semver_req_fits(semver_req *range, const char *version, size_t version_len, uint32_t pre_releases);
+int32_t semver_req_fits(const semver_req *range, const char *version, size_t version_len, uint32_t pre_releases);
 
 /* Whether the version matches the range: NO, YES or TAG. */
-int32_t semver_req_matches(semver_req *range, semver_ver *version, uint32_t pre_releases);
+int32_t semver_req_matches(const semver_req *range, const semver_ver *version, uint32_t pre_releases);
 
 /* Whether the version of these numbers, without a pre-release and a build, matches the range: NO, YES or TAG. It is the same for both
  * rules of pre-releases. */
-int32_t semver_req_matches_release(semver_req *range, uint64_t major, uint64_t minor, uint64_t patch);
+int32_t semver_req_matches_release(const semver_req *range, uint64_t major, uint64_t minor, uint64_t patch);
 
-/* Whether two ranges overlap: as semver_overlap. The handles are two. */
-int32_t semver_req_overlap(semver_req *one, semver_req *other);
+/* Whether two ranges overlap: as semver_overlap. */
+int32_t semver_req_overlap(const semver_req *one, const semver_req *other);
 
-/* Whether two ranges mean the same, whatever texts they were parsed from: NO or YES. The handles are two. */
-int32_t semver_req_equal(semver_req *one, semver_req *other);
+/* Whether two ranges mean the same, whatever texts they were parsed from: NO or YES. */
+int32_t semver_req_equal(const semver_req *one, const semver_req *other);
 
 /* The order of two requirements: BEFORE, SAME or AFTER. A tag is before ranges, of two tags the greater is first, and of ranges those
- * that begin higher, and then those that end lower; builds are compared last. SAME, if they mean the same, as semver_req_equal. The
- * handles are two. */
-int32_t semver_req_order(semver_req *one, semver_req *other);
+ * that begin higher, and then those that end lower; builds are compared last. SAME, if they mean the same, as semver_req_equal. */
+int32_t semver_req_order(const semver_req *one, const semver_req *other);
 
 /* The text that the range was parsed from: YES. Without the whitespace around it, if it was parsed by npm's grammar. */
-int32_t semver_req_text(semver_req *handle, char *out, size_t out_len, size_t *needed);
+int32_t semver_req_text(const semver_req *handle, char *out, size_t out_len, size_t *needed);
 
 /* The canonical form of the range, and how the version is displayed: YES, or NO_MEMORY. */
-int32_t semver_req_normal(semver_req *handle, char *out, size_t out_len, size_t *needed);
-int32_t semver_version_text(semver_ver *handle, char *out, size_t out_len, size_t *needed);
+int32_t semver_req_normal(const semver_req *handle, char *out, size_t out_len, size_t *needed);
+int32_t semver_version_text(const semver_ver *handle, char *out, size_t out_len, size_t *needed);
 
-/* The order of two versions: as semver_compare. The handles are two. */
-int32_t semver_version_compare(semver_ver *one, semver_ver *other);
+/* The order of two versions: as semver_compare. */
+int32_t semver_version_compare(const semver_ver *one, const semver_ver *other);
 
-/* The order in which versions that differ only in the build are ordered by it. The handles are two. */
-int32_t semver_version_order(semver_ver *one, semver_ver *other);
+/* The order in which versions that differ only in the build are ordered by it. */
+int32_t semver_version_order(const semver_ver *one, const semver_ver *other);
 
-/* Parses versions, one per line, into a handle that has none: YES, and `*lines` is the number of lines. A line that isn't a version keeps
- * its place and matches nothing. For any other code, NOT_UTF8 or NO_MEMORY, the handle still has none, and `*lines` stays as it was. */
+/* Parses versions, one per line, into a handle, as semver_req_read does a range: YES, and `*lines` is the number of lines. A line that
+ * isn't a version keeps its place and matches nothing. For any other code, NOT_UTF8 or NO_MEMORY, `*lines` stays as it was, too. */
 int32_t semver_list_read(const char *versions, size_t versions_len, semver_list *handle, size_t *lines);
 
-/* Frees the versions of a handle that has some; it has none then. */
+/* Frees the versions that a handle holds: as semver_req_free. */
 void semver_list_free(semver_list *handle);
 
 /* Which versions of the list match the range: as semver_filter. */
-int32_t semver_list_filter(semver_list *list, semver_req *range, uint32_t pre_releases,
+int32_t semver_list_filter(const semver_list *list, const semver_req *range, uint32_t pre_releases,
                            int8_t *answers, size_t answers_len, size_t *needed);
 
 /* Which version of the list is the highest that matches the range, the first of equal ones: YES, and `*place` is its line, counted from
  * 0; NO, if none matches; or TAG. For any code but YES `*place` stays as it was. No code says that memory ran out: none is needed. */
-int32_t semver_list_best(semver_list *list, semver_req *range, uint32_t pre_releases, size_t *place);
+int32_t semver_list_best(const semver_list *list, const semver_req *range, uint32_t pre_releases, size_t *place);
 
 /* The lowest that matches, the first of equal ones: like semver_list_best. */
-int32_t semver_list_lowest(semver_list *list, semver_req *range, uint32_t pre_releases, size_t *place);
+int32_t semver_list_lowest(const semver_list *list, const semver_req *range, uint32_t pre_releases, size_t *place);
 
 /* The lines of the list that are versions, in the order of precedence: as semver_sort. A line that isn't a version is left out, and
  * `*needed` is the number of the others. */
-int32_t semver_list_sort(semver_list *list, size_t *places, size_t places_len, size_t *needed);
+int32_t semver_list_sort(const semver_list *list, size_t *places, size_t places_len, size_t *needed);
 
 /* SEMVER_API of the library: a binding rejects another one when it is loaded. */
 uint32_t semver_api(void);
