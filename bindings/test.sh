@@ -1,8 +1,8 @@
 #!/bin/sh
-# Builds the library of the calls where a source is newer, and tests the bindings over it: C's, also under the address checker,
-# Python's, and Rust's where cargo is there, with serde and url where Debian's packages are. Each answers the questions of
-# questions.jsonl and runs its examples, over the heap of heap.c, which counts what is alive. Then the npm package over the same
-# library (js/test.sh). It stops at the first failure.
+# Compares the declarations of the calls with the library's exports. Then builds the library where a source is newer, and tests the
+# bindings over it: C's, also under the address checker, Python's, and Rust's where cargo is there, with serde and url where Debian's
+# packages are. Each answers the questions of questions.jsonl and runs its examples, over the heap of heap.c, which counts what is alive.
+# Then the npm package over the same library (js/test.sh). It stops at the first failure.
 #
 # usage: test.sh [c] [python] [rust] [js] [speed]; by default all but speed, which prints the times of calls.
 # OUT is a folder for what is built, by default bindings/out; CC is the C compiler.
@@ -135,6 +135,7 @@ for part; do
     case $part in c | python | rust | js | speed) ;; *) echo "usage: test.sh [c] [python] [rust] [js] [speed]" >&2; exit 2 ;; esac
 done
 mkdir -p "$out"
+"$here/declarations.py" --check
 "$here/library.py" >"$out/library.log" 2>&1 || { cat "$out/library.log" >&2; exit 1; }
 make_heap
 python3 "$here/flatten.py" "$here/questions.jsonl" >"$out/questions.flat"

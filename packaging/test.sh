@@ -318,8 +318,8 @@ rejects_stale() {
     "$copy/bindings/js/package.py"
     grep -q '^// changed' "$copy/bindings/js/out/package/index.js" || fail 'the npm package has an old source'
     [ ! -e "$copy/bindings/js/out/package/held.js" ] || fail 'the npm package has a source that was removed'
-    for source in crates/semver_base/src/lib.rt crates/semver_c/src/lib.rt bindings/js/wasm/semver_wasm.c bindings/js/build.py \
-        bindings/c/semver.h; do
+    for source in crates/semver_base/src/lib.rt crates/semver_c/src/lib.rt bindings/js/wasm/semver_wasm.c bindings/js/wasm/exports.h \
+        bindings/js/build.py bindings/c/semver.h; do
         touch -d '1 minute' "$copy/$source"
         if "$copy/bindings/js/package.py" 2>"$root/why"; then fail "an npm package is made though $source is newer than semver.wasm"; fi
         grep -q "${source%/src/*}" "$root/why" || fail "what is newer than semver.wasm isn't said: $(cat "$root/why")"

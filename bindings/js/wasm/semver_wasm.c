@@ -17,12 +17,12 @@ typedef uintptr_t address;
 
 typedef struct {
     char *at;
-    size_t room, len;
+    size_t room;
 } buffer;
 
 static _Alignas(16) char first_input[1024], first_output[1024]; /* aligned as blocks of the heap are */
-static buffer input = {first_input, sizeof first_input, 0}, output = {first_output, sizeof first_output, 0};
-static size_t found;
+static buffer input = {first_input, sizeof first_input}, output = {first_output, sizeof first_output};
+static size_t needed, place;
 static void *made;
 
 /* Makes room for so many bytes. What the buffer holds is lost. */
@@ -43,15 +43,15 @@ static address address_of(const void *at) {
 /* Where JavaScript writes so many bytes; 0 if memory runs out. */
 EXPORT(address, input)(uint32_t size) { return make_room(&input, size) ? address_of(input.at) : 0; }
 EXPORT(address, output)(void) { return address_of(output.at); }
-EXPORT(uint32_t, output_len)(void) { return (uint32_t)output.len; }
-EXPORT(uint32_t, place)(void) { return (uint32_t)found; }
+EXPORT(uint32_t, output_len)(void) { return (uint32_t)needed; }
+EXPORT(uint32_t, place)(void) { return (uint32_t)place; }
 EXPORT(address, handle)(void) { return address_of(made); }
 
 /* Whether the output had no room for what the call writes, and has it now. */
 static int may_repeat(int32_t *code) {
-    if (output.len <= output.room) return 0;
-    if (make_room(&output, output.len)) return 1;
-    output.len = 0;
+    if (needed <= output.room) return 0;
+    if (make_room(&output, needed)) return 1;
+    needed = 0;
     *code = SEMVER_NO_MEMORY;
     return 0;
 }
@@ -63,40 +63,13 @@ static int may_repeat(int32_t *code) {
     while (may_repeat(&code)); \
     return code
 
-#define OUT output.at, output.room, &output.len
-#define ONE input.at, a
-#define TWO ONE, input.at + a, b
+#define OUT output.at, output.room
+#define ANSWERS (int8_t *)output.at, output.room /* a byte for each line */
+#define TEXT(begin, len) input.at + (begin), len
+#define RANGE(number) ((semver_req *)(uintptr_t)(number))
+#define LIST(number) ((semver_list *)(uintptr_t)(number))
 
-EXPORT(int32_t, fits)(uint32_t grammar, uint32_t a, uint32_t b, uint32_t pre) { WRITES(semver_fits(grammar, TWO, pre, OUT)); }
-EXPORT(int32_t, within)(uint32_t grammar, uint32_t a, uint32_t b, uint32_t pre) { WRITES(semver_within(grammar, TWO, pre, OUT, &found)); }
-EXPORT(int32_t, common)(uint32_t grammar, uint32_t a, uint32_t b, uint32_t pre) { WRITES(semver_common(grammar, TWO, pre, OUT, &found)); }
-EXPORT(int32_t, common_all)(uint32_t grammar, uint32_t a, uint32_t pre) { WRITES(semver_common_all(grammar, ONE, pre, OUT, &found)); }
-EXPORT(int32_t, equivalent)(uint32_t grammar, uint32_t a, uint32_t b, uint32_t pre) { return semver_equivalent(grammar, TWO, pre, &found); }
-EXPORT(int32_t, overlap)(uint32_t grammar, uint32_t a, uint32_t b) { return semver_overlap(grammar, TWO, &found); }
-EXPORT(int32_t, compare)(uint32_t a, uint32_t b) { return semver_compare(TWO, &found); }
-EXPORT(int32_t, best)(uint32_t grammar, uint32_t a, uint32_t b, uint32_t pre) { return semver_best(grammar, TWO, pre, &found); }
-EXPORT(int32_t, lowest)(uint32_t grammar, uint32_t a, uint32_t b, uint32_t pre) { return semver_lowest(grammar, TWO, pre, &found); }
-EXPORT(int32_t, min_version)(uint32_t grammar, uint32_t a, uint32_t pre) { WRITES(semver_min_version(grammar, ONE, pre, OUT)); }
-EXPORT(int32_t, normal)(uint32_t grammar, uint32_t a) { WRITES(semver_normal(grammar, ONE, OUT)); }
-EXPORT(int32_t, explain)(uint32_t grammar, uint32_t a, uint32_t pre) { WRITES(semver_explain(grammar, ONE, pre, OUT)); }
-EXPORT(int32_t, errors)(uint32_t grammar, uint32_t a) { WRITES(semver_errors(grammar, ONE, OUT)); }
-EXPORT(int32_t, version)(uint32_t a) { WRITES(semver_version(ONE, OUT)); }
-EXPORT(int32_t, version_error)(uint32_t a) { return semver_version_error(ONE, &found); }
-EXPORT(int32_t, version_parts)(uint32_t a) { WRITES(semver_version_parts(ONE, OUT)); }
-EXPORT(int32_t, package)(uint32_t grammar, uint32_t a) { WRITES(semver_package(grammar, ONE, OUT)); }
-EXPORT(int32_t, reference)(uint32_t a) { WRITES(semver_reference(ONE, OUT)); }
-EXPORT(int32_t, package_errors)(uint32_t grammar, uint32_t a) { WRITES(semver_package_errors(grammar, ONE, OUT)); }
-EXPORT(int32_t, reference_errors)(uint32_t a) { WRITES(semver_reference_errors(ONE, OUT)); }
-EXPORT(int32_t, name_with_version)(uint32_t a) { WRITES(semver_name_with_version(ONE, OUT)); }
-EXPORT(int32_t, version_reference)(uint32_t a) { WRITES(semver_version_reference(ONE, OUT)); }
-EXPORT(int32_t, dependency)(uint32_t grammar, uint32_t a) { WRITES(semver_dependency(grammar, ONE, OUT)); }
-EXPORT(int32_t, export_name)(uint32_t a) { WRITES(semver_export_name(ONE, OUT)); }
-EXPORT(int32_t, may_be_tag)(uint32_t a) { return semver_may_be_tag(ONE); }
-
-/* A byte for each line of the second text. */
-EXPORT(int32_t, filter)(uint32_t grammar, uint32_t a, uint32_t b, uint32_t pre) {
-    WRITES(semver_filter(grammar, TWO, pre, (int8_t *)output.at, output.room, &output.len));
-}
+#include "exports.h" /* the calls that write no places and no handle */
 
 /* Calls that write places: the output has room for `room` of them. Where there are more, the call is repeated. */
 static size_t *places(size_t room) {
@@ -106,14 +79,14 @@ static size_t *places(size_t room) {
 /* Makes the places numbers of 32 bits. */
 static int32_t report_places(int32_t code, size_t count) {
     for (size_t i = 0; code == SEMVER_YES && i < count; i++) ((uint32_t *)output.at)[i] = (uint32_t)((size_t *)output.at)[i];
-    output.len = code == SEMVER_YES ? count * sizeof(uint32_t) : 0;
+    needed = code == SEMVER_YES ? count * sizeof(uint32_t) : 0;
     return code;
 }
 
 /* `count` is how many lines there are. */
-EXPORT(int32_t, sort)(uint32_t a, uint32_t count) {
-    size_t needed = 0, *to = places(count);
-    return to ? report_places(semver_sort(ONE, to, count, &needed, &found), count) : SEMVER_NO_MEMORY;
+EXPORT(int32_t, sort)(uint32_t versions_len, uint32_t count) {
+    size_t *to = places(count);
+    return to ? report_places(semver_sort(TEXT(0, versions_len), to, count, &needed, &place), count) : SEMVER_NO_MEMORY;
 }
 
 /* A handle is its address. */
@@ -123,58 +96,40 @@ static int32_t report_handle(int32_t code, void *handle) {
     return code;
 }
 
-static int32_t parse_range(semver_req *handle, uint32_t grammar, uint32_t a) {
-    int32_t code = semver_req_read(grammar, ONE, handle, OUT);
+static int32_t parse_range(semver_req *handle, uint32_t grammar, uint32_t text_len) {
+    int32_t code = semver_req_read(grammar, TEXT(0, text_len), handle, OUT, &needed);
     if (code == SEMVER_YES || !may_repeat(&code)) return code;
-    return semver_req_read(grammar, ONE, handle, OUT);
+    return semver_req_read(grammar, TEXT(0, text_len), handle, OUT, &needed);
 }
 
-EXPORT(int32_t, range_read)(uint32_t grammar, uint32_t a) {
+EXPORT(int32_t, range_read)(uint32_t grammar, uint32_t text_len) {
     semver_req *handle = heap_take(sizeof *handle);
     if (!handle) return SEMVER_NO_MEMORY;
     handle->at = 0;
-    return report_handle(parse_range(handle, grammar, a), handle);
+    return report_handle(parse_range(handle, grammar, text_len), handle);
 }
 
-EXPORT(int32_t, list_read)(uint32_t a) {
+EXPORT(int32_t, list_read)(uint32_t versions_len) {
     size_t lines;
     semver_list *handle = heap_take(sizeof *handle);
     if (!handle) return SEMVER_NO_MEMORY;
     handle->at = 0;
-    return report_handle(semver_list_read(ONE, handle, &lines), handle);
+    return report_handle(semver_list_read(TEXT(0, versions_len), handle, &lines), handle);
 }
 
-#define RANGE(number) ((semver_req *)(uintptr_t)(number))
-#define LIST(number) ((semver_list *)(uintptr_t)(number))
-
-EXPORT(void, range_free)(address r) {
-    semver_req_free(RANGE(r));
-    heap_free(RANGE(r));
+EXPORT(void, range_free)(address range) {
+    semver_req_free(RANGE(range));
+    heap_free(RANGE(range));
 }
 
-EXPORT(void, list_free)(address l) {
-    semver_list_free(LIST(l));
-    heap_free(LIST(l));
+EXPORT(void, list_free)(address list) {
+    semver_list_free(LIST(list));
+    heap_free(LIST(list));
 }
-
-EXPORT(int32_t, range_is_tag)(address r) { return semver_req_is_tag(RANGE(r)); }
-EXPORT(int32_t, range_fits)(address r, uint32_t a, uint32_t pre) { return semver_req_fits(RANGE(r), ONE, pre); }
-EXPORT(int32_t, range_overlap)(address r, address s) { return semver_req_overlap(RANGE(r), RANGE(s)); }
-EXPORT(int32_t, range_equal)(address r, address s) { return semver_req_equal(RANGE(r), RANGE(s)); }
-EXPORT(int32_t, range_text)(address r) { WRITES(semver_req_text(RANGE(r), OUT)); }
-EXPORT(int32_t, range_normal)(address r) { WRITES(semver_req_normal(RANGE(r), OUT)); }
-
-EXPORT(int32_t, list_best)(address l, address r, uint32_t pre) { return semver_list_best(LIST(l), RANGE(r), pre, &found); }
-EXPORT(int32_t, list_lowest)(address l, address r, uint32_t pre) { return semver_list_lowest(LIST(l), RANGE(r), pre, &found); }
 
 /* `count` is how many lines there are. */
-EXPORT(int32_t, list_sort)(address l, uint32_t count) {
-    size_t needed = 0, *to = places(count);
-    int32_t code = to ? semver_list_sort(LIST(l), to, count, &needed) : SEMVER_NO_MEMORY;
+EXPORT(int32_t, list_sort)(address list, uint32_t count) {
+    size_t *to = places(count);
+    int32_t code = to ? semver_list_sort(LIST(list), to, count, &needed) : SEMVER_NO_MEMORY;
     return report_places(code, needed);
-}
-
-/* A byte for each line of the list. */
-EXPORT(int32_t, list_filter)(address l, address r, uint32_t pre) {
-    WRITES(semver_list_filter(LIST(l), RANGE(r), pre, (int8_t *)output.at, output.room, &output.len));
 }

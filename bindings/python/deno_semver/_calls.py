@@ -5,11 +5,12 @@ from __future__ import annotations
 import ctypes
 import json
 import os
-from ctypes import POINTER, byref, c_char_p, c_int8, c_int32, c_size_t, c_uint32, c_void_p
+from ctypes import byref, c_size_t
 from pathlib import Path
 from typing import Any, Callable, Dict, NoReturn, Optional, Tuple, Type
 
 from ._errors import InvalidPackage, InvalidRange, InvalidVersion, SemverError, TagError
+from ._table import HANDLE, TABLE, Handle
 
 NO, YES = 0, 1
 TAG, INVALID_RANGE, INVALID_VERSION, NOT_UTF8, NO_GRAMMAR, NO_MEMORY = -1, -2, -3, -4, -5, -6
@@ -19,61 +20,6 @@ GRAMMARS = {"npm": 0, "normalized": 1, "strict": 2}
 API = 1
 
 
-class Handle(ctypes.Structure):
-    """A value that the library holds, or none."""
-
-    _fields_ = [("at", c_void_p)]
-
-
-_TEXT = (c_char_p, c_size_t)
-_OUT = (c_char_p, c_size_t, POINTER(c_size_t))
-_PLACE = POINTER(c_size_t)
-_HANDLE = POINTER(Handle)
-
-# The calls of texts let other threads run.
-_OF_TEXTS: Dict[str, Tuple[Any, ...]] = {
-    "fits": (c_uint32, *_TEXT, *_TEXT, c_uint32, *_OUT),
-    "filter": (c_uint32, *_TEXT, *_TEXT, c_uint32, POINTER(c_int8), c_size_t, POINTER(c_size_t)),
-    "best": (c_uint32, *_TEXT, *_TEXT, c_uint32, _PLACE),
-    "lowest": (c_uint32, *_TEXT, *_TEXT, c_uint32, _PLACE),
-    "sort": (*_TEXT, POINTER(c_size_t), c_size_t, POINTER(c_size_t), _PLACE),
-    "compare": (*_TEXT, *_TEXT, _PLACE),
-    "overlap": (c_uint32, *_TEXT, *_TEXT, _PLACE),
-    "within": (c_uint32, *_TEXT, *_TEXT, c_uint32, *_OUT, _PLACE),
-    "equivalent": (c_uint32, *_TEXT, *_TEXT, c_uint32, _PLACE),
-    "common_all": (c_uint32, *_TEXT, c_uint32, *_OUT, _PLACE),
-    "min_version": (c_uint32, *_TEXT, c_uint32, *_OUT),
-    "normal": (c_uint32, *_TEXT, *_OUT),
-    "version": (*_TEXT, *_OUT),
-    "may_be_tag": _TEXT,
-    "package": (c_uint32, *_TEXT, *_OUT),
-    "reference": (*_TEXT, *_OUT),
-    "ranges": (c_uint32, *_TEXT, *_OUT),
-    "explain": (c_uint32, *_TEXT, c_uint32, *_OUT),
-    "errors": (c_uint32, *_TEXT, *_OUT),
-    "package_errors": (c_uint32, *_TEXT, *_OUT),
-    "reference_errors": (*_TEXT, *_OUT),
-    "version_error": (*_TEXT, _PLACE),
-    "name_with_version": (*_TEXT, *_OUT),
-    "version_reference": (*_TEXT, *_OUT),
-    "dependency": (c_uint32, *_TEXT, *_OUT),
-    "export_name": (*_TEXT, *_OUT),
-}
-# The calls of handles are short, and hold the interpreter's lock.
-_OF_HANDLES: Dict[str, Tuple[Any, ...]] = {
-    "req_read": (c_uint32, *_TEXT, _HANDLE, *_OUT),
-    "req_is_tag": (_HANDLE,),
-    "req_fits": (_HANDLE, *_TEXT, c_uint32),
-    "req_matches": (_HANDLE, _HANDLE, c_uint32),
-    "req_overlap": (_HANDLE, _HANDLE),
-    "req_equal": (_HANDLE, _HANDLE),
-    "version_read": (*_TEXT, _HANDLE, *_OUT),
-    "version_compare": (_HANDLE, _HANDLE),
-    "version_order": (_HANDLE, _HANDLE),
-}
-_FREES = ("req_free", "version_free")
-
-
 def _path() -> str:
     """The shared library: that of DENO_SEMVER_LIBRARY, or the one beside this file."""
     given = os.environ.get("DENO_SEMVER_LIBRARY")
@@ -81,21 +27,14 @@ def _path() -> str:
 
 
 def _load() -> Dict[str, Callable[..., Any]]:
-    path = _path()
+    # The calls of texts let other threads run. Those of handles are short, and hold the interpreter's lock.
+    of_texts, of_handles = ctypes.CDLL(_path()), ctypes.PyDLL(_path())
     calls: Dict[str, Callable[..., Any]] = {}
-    for library, kinds in ((ctypes.CDLL(path), _OF_TEXTS), (ctypes.PyDLL(path), _OF_HANDLES)):
-        for name, arguments in kinds.items():
-            call = getattr(library, f"semver_{name}")
-            call.argtypes, call.restype = arguments, c_int32
-            calls[name] = call
-    for name in _FREES:
-        call = getattr(ctypes.PyDLL(path), f"semver_{name}")
-        call.argtypes, call.restype = (_HANDLE,), None
+    for name, (result, *arguments) in TABLE.items():
+        call = getattr(of_handles if HANDLE in arguments else of_texts, f"semver_{name}")
+        call.argtypes, call.restype = arguments, result
         calls[name] = call
     return calls
-
-
-CALLS = _load()
 
 
 def _check_api() -> None:
@@ -106,6 +45,7 @@ def _check_api() -> None:
 
 
 _check_api()
+CALLS = _load()
 
 
 def wrong_type(value: Any, name: str, wanted: str) -> NoReturn:

@@ -11,7 +11,6 @@ from ._calls import (
     CALLS,
     GRAMMARS,
     YES,
-    Handle,
     encoded,
     fail_range,
     fail_version,
@@ -22,6 +21,7 @@ from ._calls import (
     wrong_type,
 )
 from ._errors import InvalidRange, InvalidVersion, TagError
+from ._table import Handle
 
 _PARTS = re.compile(r"(\d+)\.(\d+)\.(\d+)(?:-([^+]*))?(?:\+(.*))?")
 

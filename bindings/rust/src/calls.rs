@@ -1,16 +1,11 @@
 //! The C calls, each wrapped in a safe function. Pointers and lengths are those of slices borrowed for the call, which are never null, and
 //! a handle is borrowed by `&mut`, so that a call has it alone.
 
+use crate::externs::*;
 use crate::string::StackString;
 use std::alloc::{handle_alloc_error, Layout};
 use std::cmp::Ordering;
-use std::ffi::c_void;
 use std::ptr;
-
-#[repr(C)]
-struct Raw {
-    at: *mut c_void,
-}
 
 impl Raw {
     fn none() -> Raw {
@@ -18,85 +13,8 @@ impl Raw {
     }
 }
 
-type In = *const u8;
 type Out = *mut u8;
 type Size = *mut usize;
-
-extern "C" {
-    fn semver_filter(
-        grammar: u32,
-        range: In,
-        range_len: usize,
-        versions: In,
-        versions_len: usize,
-        pre: u32,
-        answers: *mut i8,
-        answers_len: usize,
-        needed: Size,
-    ) -> i32;
-    fn semver_best(grammar: u32, range: In, range_len: usize, versions: In, versions_len: usize, pre: u32, place: Size) -> i32;
-    fn semver_lowest(grammar: u32, range: In, range_len: usize, versions: In, versions_len: usize, pre: u32, place: Size) -> i32;
-    fn semver_sort(versions: In, versions_len: usize, places: Size, places_len: usize, needed: Size, place: Size) -> i32;
-    fn semver_within(
-        grammar: u32,
-        one: In,
-        one_len: usize,
-        other: In,
-        other_len: usize,
-        pre: u32,
-        out: Out,
-        out_len: usize,
-        needed: Size,
-        place: Size,
-    ) -> i32;
-    fn semver_equivalent(grammar: u32, one: In, one_len: usize, other: In, other_len: usize, pre: u32, place: Size) -> i32;
-    fn semver_common_all(
-        grammar: u32,
-        ranges: In,
-        ranges_len: usize,
-        pre: u32,
-        out: Out,
-        out_len: usize,
-        needed: Size,
-        place: Size,
-    ) -> i32;
-    fn semver_min_version(grammar: u32, range: In, range_len: usize, pre: u32, out: Out, out_len: usize, needed: Size) -> i32;
-    fn semver_normal(grammar: u32, range: In, range_len: usize, out: Out, out_len: usize, needed: Size) -> i32;
-    fn semver_is_tag(grammar: u32, range: In, range_len: usize, out: Out, out_len: usize, needed: Size) -> i32;
-    fn semver_version(version: In, version_len: usize, out: Out, out_len: usize, needed: Size) -> i32;
-    fn semver_version_numbers(version: In, version_len: usize, numbers: *mut u64, numbers_len: usize, needed: Size) -> i32;
-    fn semver_may_be_tag(text: In, len: usize) -> i32;
-    fn semver_ranges(grammar: u32, range: In, range_len: usize, out: Out, out_len: usize, needed: Size) -> i32;
-    fn semver_errors(grammar: u32, range: In, range_len: usize, out: Out, out_len: usize, needed: Size) -> i32;
-    fn semver_package_errors(grammar: u32, text: In, len: usize, out: Out, out_len: usize, needed: Size) -> i32;
-    fn semver_reference_errors(text: In, len: usize, out: Out, out_len: usize, needed: Size) -> i32;
-    fn semver_version_error(version: In, version_len: usize, place: Size) -> i32;
-    fn semver_package(grammar: u32, text: In, len: usize, out: Out, out_len: usize, needed: Size) -> i32;
-    fn semver_reference(text: In, len: usize, out: Out, out_len: usize, needed: Size) -> i32;
-    fn semver_name_with_version(text: In, len: usize, out: Out, out_len: usize, needed: Size) -> i32;
-    fn semver_version_reference(text: In, len: usize, out: Out, out_len: usize, needed: Size) -> i32;
-    fn semver_dependency(grammar: u32, text: In, len: usize, out: Out, out_len: usize, needed: Size) -> i32;
-    fn semver_req_read(grammar: u32, text: In, len: usize, handle: *mut Raw, out: Out, out_len: usize, needed: Size) -> i32;
-    fn semver_req_free(handle: *mut Raw);
-    fn semver_req_fits(range: *mut Raw, version: In, version_len: usize, pre: u32) -> i32;
-    fn semver_req_matches(range: *mut Raw, version: *mut Raw, pre: u32) -> i32;
-    fn semver_req_matches_release(range: *mut Raw, major: u64, minor: u64, patch: u64) -> i32;
-    fn semver_req_overlap(one: *mut Raw, other: *mut Raw) -> i32;
-    fn semver_req_equal(one: *mut Raw, other: *mut Raw) -> i32;
-    fn semver_req_order(one: *mut Raw, other: *mut Raw) -> i32;
-    fn semver_req_normal(handle: *mut Raw, out: Out, out_len: usize, needed: Size) -> i32;
-    fn semver_version_read(text: In, len: usize, handle: *mut Raw, out: Out, out_len: usize, needed: Size) -> i32;
-    fn semver_version_free(handle: *mut Raw);
-    fn semver_version_order(one: *mut Raw, other: *mut Raw) -> i32;
-    fn semver_version_compare(one: *mut Raw, other: *mut Raw) -> i32;
-    fn semver_version_text(handle: *mut Raw, out: Out, out_len: usize, needed: Size) -> i32;
-    fn semver_list_read(versions: In, versions_len: usize, handle: *mut Raw, lines: Size) -> i32;
-    fn semver_list_free(handle: *mut Raw);
-    fn semver_list_filter(list: *mut Raw, range: *mut Raw, pre: u32, answers: *mut i8, answers_len: usize, needed: Size) -> i32;
-    fn semver_list_best(list: *mut Raw, range: *mut Raw, pre: u32, place: Size) -> i32;
-    fn semver_list_lowest(list: *mut Raw, range: *mut Raw, pre: u32, place: Size) -> i32;
-    fn semver_list_sort(list: *mut Raw, places: Size, places_len: usize, needed: Size) -> i32;
-}
 
 const NO: i32 = 0;
 const YES: i32 = 1;

@@ -15,6 +15,7 @@
 
 mod calls;
 mod error;
+mod externs;
 mod handle;
 mod json;
 pub mod jsr;
