@@ -1,0 +1,67 @@
+/* The calls that ask handles, for mistakes.c and threads.c. */
+#include "semver.h"
+#include <string.h>
+
+#define TEXT(s) (s), strlen(s)
+
+enum kind { NONE, REQ, VER, LIST };
+enum { LINES = 4 };
+enum writes { CODE, MESSAGE, ITEMS, PLACE };
+
+/* What a call returns and writes. */
+typedef struct {
+    char out[64];
+    int8_t answers[LINES];
+    size_t places[LINES], room, needed, place; /* the room in `out` */
+    int32_t code;
+} answer;
+
+#define OUT it->out, it->room, &it->needed
+#define ANSWERS it->answers, LINES, &it->needed
+#define PLACES it->places, LINES, &it->needed
+
+/* Of each call: its name without semver_, the kinds of its handles, what it writes besides its code, and its arguments. */
+#define EACH(ask)                                                            \
+    ask(req_is_tag, REQ, NONE, CODE, one)                                    \
+    ask(req_fits, REQ, NONE, CODE, one, TEXT("1.3.0-rc.1+b"), pre_releases)  \
+    ask(req_matches, REQ, VER, CODE, one, other, pre_releases)               \
+    ask(req_matches_release, REQ, NONE, CODE, one, 1, 3, 0)                  \
+    ask(req_overlap, REQ, REQ, CODE, one, other)                             \
+    ask(req_equal, REQ, REQ, CODE, one, other)                               \
+    ask(req_order, REQ, REQ, CODE, one, other)                               \
+    ask(req_text, REQ, NONE, MESSAGE, one, OUT)                              \
+    ask(req_normal, REQ, NONE, MESSAGE, one, OUT)                            \
+    ask(version_text, VER, NONE, MESSAGE, one, OUT)                          \
+    ask(version_compare, VER, VER, CODE, one, other)                         \
+    ask(version_order, VER, VER, CODE, one, other)                           \
+    ask(list_filter, LIST, REQ, ITEMS, one, other, pre_releases, ANSWERS)    \
+    ask(list_best, LIST, REQ, PLACE, one, other, pre_releases, &it->place)   \
+    ask(list_lowest, LIST, REQ, PLACE, one, other, pre_releases, &it->place) \
+    ask(list_sort, LIST, NONE, ITEMS, one, PLACES)
+
+#define FUNCTION(name, first, second, writes, ...)                                                     \
+    static int32_t ask_##name(const void *one, const void *other, uint32_t pre_releases, answer *it) { \
+        (void)one, (void)other, (void)pre_releases, (void)it;                                          \
+        return semver_##name(__VA_ARGS__);                                                             \
+    }
+EACH(FUNCTION)
+
+#define ROW(name, first, second, writes, ...) {"semver_" #name, first, second, writes, ask_##name},
+static const struct call {
+    const char *name;
+    enum kind one, other;
+    enum writes writes;
+    int32_t (*ask)(const void *one, const void *other, uint32_t pre_releases, answer *it);
+} CALLS[] = {EACH(ROW)};
+enum { COUNT = sizeof CALLS / sizeof *CALLS };
+
+/* An answer that no call wrote. */
+static void clear(answer *it, size_t room) {
+    memset(it, 9, sizeof *it);
+    it->room = room;
+}
+
+static void ask(const struct call *c, const void *one, const void *other, uint32_t pre_releases, answer *it) {
+    clear(it, sizeof it->out);
+    it->code = c->ask(one, other, pre_releases, it);
+}
