@@ -1,8 +1,8 @@
 #!/bin/sh
 # Compares the declarations of the calls with the library's exports. Then builds the library where a source is newer, and tests the
-# bindings over it: C's, also under the address checker, Python's, and Rust's where cargo is there, with serde and url where Debian's
-# packages are. Each answers the questions of questions.jsonl and runs its examples, over the heap of heap.c, which counts what is alive.
-# Then the npm package over the same library (js/test.sh). It stops at the first failure.
+# bindings over it: C's, also under the checkers of addresses and threads, Python's, and Rust's where cargo is there, with serde and url
+# where Debian's packages are. Each answers the questions of questions.jsonl and runs its examples, over the heap of heap.c, which counts
+# what is alive. Then the npm package over the same library (js/test.sh). It stops at the first failure.
 #
 # usage: test.sh [c] [python] [rust] [js] [speed]; by default all but speed, which prints the times of calls.
 # OUT is a folder for what is built, by default bindings/out; CC is the C compiler.
@@ -41,13 +41,33 @@ shared() {
     compile -shared "$@" -o "$out/$name" -Wl,--whole-archive "$lib/libsemver_c.a" "$heap/liblibc_c.a" -Wl,--no-whole-archive
 }
 
+# Whether the compiler has this checker, and the machine runs it.
+has_checker() {
+    echo 'int main(void) { return 0; }' | ${CC:-cc} "-fsanitize=$1" -x c -o "$out/checked" - 2>/dev/null && "$out/checked"
+}
+
+# Each call that asks a handle is in asks.h.
+asks_each() {
+    sed -n 's/^int32_t semver_\([a-z_]*\)(const semver_.*/\1/p' "$here/c/semver.h" | while read -r call; do
+        grep -q "^    ask($call," "$here/c/asks.h" || { echo "bindings/c/asks.h has no $call" >&2; exit 1; }
+    done
+}
+
 c() {
+    asks_each
     for checks in "" "-g -fsanitize=address,undefined -fno-sanitize-recover=all"; do
         echo "C $checks"
         program questions "$out/heap" $checks
         "$out/questions" "$out/questions.flat"
-        program examples "$out/heap" $checks
-        "$out/examples"
+        for name in examples mistakes; do
+            program $name "$out/heap" $checks
+            "$out/$name"
+        done
+    done
+    for checks in "" $(has_checker thread && echo -fsanitize=thread); do
+        echo "C, threads $checks"
+        program threads "$out/heap" -pthread $checks
+        "$out/threads"
     done
 }
 
