@@ -250,11 +250,11 @@ int32_t semver_req_is_tag(const semver_req *handle);
 int32_t semver_req_fits(const semver_req *handle, const char *version, size_t version_len, uint32_t pre_releases);
 
 /* Whether the version matches the range: NO, YES or TAG. */
-int32_t semver_req_matches(const semver_req *requirement, const semver_ver *version, uint32_t pre_releases);
+int32_t semver_req_matches(const semver_req *range, const semver_ver *version, uint32_t pre_releases);
 
 /* Whether the version of these numbers, without a pre-release and a build, matches the range: NO, YES or TAG. It is the same for both
  * rules of pre-releases. */
-int32_t semver_req_matches_release(const semver_req *requirement, uint64_t major, uint64_t minor, uint64_t patch);
+int32_t semver_req_matches_release(const semver_req *handle, uint64_t major, uint64_t minor, uint64_t patch);
 
 /* Whether two ranges overlap: as semver_overlap. */
 int32_t semver_req_overlap(const semver_req *one, const semver_req *other);

@@ -263,8 +263,8 @@ extern "C" {
     pub(crate) fn semver_req_free(handle: *mut Raw);
     pub(crate) fn semver_version_free(handle: *mut Raw);
     pub(crate) fn semver_req_fits(handle: *const Raw, version: *const u8, version_len: usize, pre_releases: u32) -> i32;
-    pub(crate) fn semver_req_matches(requirement: *const Raw, version: *const Raw, pre_releases: u32) -> i32;
-    pub(crate) fn semver_req_matches_release(requirement: *const Raw, major: u64, minor: u64, patch: u64) -> i32;
+    pub(crate) fn semver_req_matches(range: *const Raw, version: *const Raw, pre_releases: u32) -> i32;
+    pub(crate) fn semver_req_matches_release(handle: *const Raw, major: u64, minor: u64, patch: u64) -> i32;
     pub(crate) fn semver_req_is_tag(handle: *const Raw) -> i32;
     pub(crate) fn semver_req_overlap(one: *const Raw, other: *const Raw) -> i32;
     pub(crate) fn semver_version_compare(one: *const Raw, other: *const Raw) -> i32;
