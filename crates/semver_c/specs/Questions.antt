@@ -2,26 +2,21 @@
 -- asked.
 use Rattle.std.specs.Prelude.{◌≡◌, ◌==◌, ◌&&◌, ℕ, List, [], ◌∷◌, is_some, length, Bool, Option, Some, Result, Ok}
 use Rattle.std.specs.Str.Lines.{lines}
-use Rattle.std.specs.declared.cmp.Ordering.{Ordering}
 use Rattle.semver_base.specs.declared.version.Version.{Version}
 use Rattle.semver_req.specs.Requirement.{Requirement, tag_of}
 use Rattle.semver_req.specs.declared.common.values.Flavour.{Flavour}
 use Rattle.deno_semver.specs.ExportName.{export_name}
-use Rattle.deno_semver.specs.declared.package.values.PackageReq.{PackageReq}
 use Rattle.semver_req.specs.Viable.{IsErrorPlace, IsVersionText}
 use Rattle.answers.specs.Asking.{Fault, Given, Is}
 use Rattle.answers.specs.Errors.{IsErrorsText}
 use Rattle.answers.specs.ExplainedJson.{Explains}
 use Rattle.answers.specs.Filtering.{Filter, VersionLines}
 use Rattle.package_answers.specs.Faults.{IsPackageFault, IsReferenceFault}
-use Rattle.package_answers.specs.Packages.{IsPackage, IsPackageErrorsText, PackageParts}
-use Rattle.answers.specs.Parts.{RangeParts, VersionParts}
-use Rattle.package_answers.specs.Names.{NameWithVersionParts}
-use Rattle.answers.specs.Questions.{BestMatch, Canonical, Common, Displayed, Equivalent, Matches, Orders, Outside, Overlaps, match_of}
+use Rattle.package_answers.specs.Packages.{IsPackageErrorsText}
+use Rattle.answers.specs.Questions.{BestMatch, Common, Equivalent, Matches, Outside, match_of}
 use Rattle.answers.specs.Reading.{IsRangeAt, IsVersionAt}
-use Rattle.package_answers.specs.References.{IsReferenceErrorsText, ReferenceParts}
+use Rattle.package_answers.specs.References.{IsReferenceErrorsText}
 use Rattle.answers.specs.Sorting.{Sorts}
-use Rattle.package_answers.specs.Specifiers.{DependencyParts, VersionReferenceParts}
 use Rattle.answers.specs.declared.asking.Answer.{Answer}
 use Rattle.answers.specs.declared.questions.Best.{Best}
 use Rattle.answers.specs.declared.questions.End.{End}
@@ -66,10 +61,6 @@ Filters number g range versions = ByTwo g range versions (λ f r v. Filter (pre_
 abbrev pub BestLine : End → ℕ → ℕ → List ℕ → List ℕ → Result (Answer (Option Best)) CallFault → Type 0
 BestLine end number g range versions = ByTwo g range versions (λ f r v. BestMatch end (pre_release_by number) f r (lines v))
 
--- `semver_overlap`
-abbrev pub OverlapsBy : ℕ → List ℕ → List ℕ → Result Bool CallFault → Type 0
-OverlapsBy g one other = ByTwo g one other Overlaps
-
 -- `semver_equivalent`
 abbrev pub EquivalentBy : ℕ → ℕ → List ℕ → List ℕ → Result (Answer Bool) CallFault → Type 0
 EquivalentBy number g one other = ByTwo g one other (λ f r s. Equivalent (pre_release_by number) f r s)
@@ -90,33 +81,13 @@ CommonOfAll number g ranges = ByOne g ranges (λ f text. Common (pre_release_by 
 abbrev pub OutsideBy : ℕ → ℕ → List ℕ → List ℕ → Result (Answer (Option Version)) CallFault → Type 0
 OutsideBy number g one other = ByTwo g one other (λ f r s. Outside (pre_release_by number) f r s)
 
--- `semver_normal`
-abbrev pub CanonicalBy : ℕ → List ℕ → Result (List ℕ) CallFault → Type 0
-CanonicalBy g range = ByOne g range Canonical
-
 -- whether a range is a tag
 abbrev pub TagBy : ℕ → List ℕ → Result Bool CallFault → Type 0
 TagBy g range = ByOne g range (λ f text. Given (IsRangeAt f 0 text) (λ req. Is (is_some (tag_of req.inner))))
 
--- `semver_version`
-abbrev pub DisplayedOf : List ℕ → Result (List ℕ) CallFault → Type 0
-DisplayedOf version = OfText version Displayed
-
--- `semver_compare`
-abbrev pub OrdersOf : List ℕ → List ℕ → Result Ordering CallFault → Type 0
-OrdersOf one other = OfTexts one other Orders
-
 -- `semver_sort`
 abbrev pub SortsOf : List ℕ → Result (List ℕ) CallFault → Type 0
 SortsOf versions = OfText versions (λ text. Sorts Ascending (lines text))
-
--- `semver_package`
-abbrev pub PackageBy : ℕ → List ℕ → Result (List ℕ) CallFault → Type 0
-PackageBy g text = ByOne g text PackageParts
-
--- `semver_package_read`
-abbrev pub PackageOf : ℕ → List ℕ → Result PackageReq CallFault → Type 0
-PackageOf g text = ByOne g text IsPackage
 
 -- none for a valid text of the subject; for an invalid one the JSON of its error
 abbrev pub IsFaultOf : Subject → Flavour → List ℕ → Option (List ℕ) → Type 0
@@ -127,18 +98,6 @@ IsFaultOf Reference f text = IsReferenceFault text
 abbrev pub WhyBy : ℕ → ℕ → List ℕ → Result (Option (List ℕ)) CallFault → Type 0
 WhyBy what g text = Given (IsSubject what)
     (λ s. ByOne g text (λ f t outcome. (fault : Option (List ℕ)) × IsFaultOf s f t fault × (outcome ≡ Ok fault)))
-
--- `semver_reference`
-abbrev pub ReferenceOf : List ℕ → Result (List ℕ) CallFault → Type 0
-ReferenceOf text = OfText text ReferenceParts
-
--- `semver_version_parts`
-abbrev pub VersionPartsOf : List ℕ → Result (List ℕ) CallFault → Type 0
-VersionPartsOf version = OfText version VersionParts
-
--- `semver_ranges`
-abbrev pub RangesBy : ℕ → List ℕ → Result (Answer (List ℕ)) CallFault → Type 0
-RangesBy g range = ByOne g range RangeParts
 
 -- what a range means
 abbrev pub ExplainsBy : ℕ → ℕ → List ℕ → Result (Answer (List ℕ)) CallFault → Type 0
@@ -160,18 +119,6 @@ ReferenceErrorsOf text = OfText text (λ text outcome. (json : List ℕ) × IsRe
 abbrev pub VersionErrorOf : List ℕ → Result ℕ CallFault → Type 0
 VersionErrorOf version = OfText version (λ text outcome. (place : ℕ) × IsErrorPlace IsVersionText text place × (outcome ≡ Ok place))
 
--- `semver_name_with_version`
-abbrev pub NameWithVersionOf : List ℕ → Result (List ℕ) CallFault → Type 0
-NameWithVersionOf text = OfText text NameWithVersionParts
-
--- `semver_version_reference`
-abbrev pub VersionReferenceOf : List ℕ → Result (List ℕ) CallFault → Type 0
-VersionReferenceOf text = OfText text VersionReferenceParts
-
--- `semver_dependency`
-abbrev pub DependencyBy : ℕ → List ℕ → Result (List ℕ) CallFault → Type 0
-DependencyBy g text = ByOne g text DependencyParts
-
 -- the name of the export that a path means
 abbrev pub ExportNameOf : List ℕ → Result (List ℕ) CallFault → Type 0
 ExportNameOf path = OfText path (λ text. Is (export_name (Some text)))
@@ -181,10 +128,6 @@ ExportNameOf path = OfText path (λ text. Is (export_name (Some text)))
 -- `semver_req_read`
 abbrev pub RangeBy : ℕ → List ℕ → Result Requirement CallFault → Type 0
 RangeBy g text = ByOne g text (λ f t. IsRangeAt f 0 t)
-
--- `semver_version_read`
-abbrev pub VersionOf : List ℕ → Result Version CallFault → Type 0
-VersionOf text = OfText text (IsVersionAt 0)
 
 -- the versions of the lines; none for a line that isn't a version
 abbrev pub VersionListOf : List ℕ → Result (List (Option Version)) CallFault → Type 0

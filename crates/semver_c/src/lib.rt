@@ -13,14 +13,20 @@ ghost use Rattle.semver_req.specs.Requirement.{inner_overlap, inner_text, tag_of
 ghost use Rattle.semver_req.specs.Tag.{is_valid_tag};
 ghost use Rattle.deno_semver.specs.ReqOrder.{inner_cmp};
 ghost use Rattle.answers.specs.Filtering.{list_matches};
-ghost use Rattle.answers.specs.Questions.{match_of};
+ghost use Rattle.answers.specs.Questions.{Canonical, Displayed, Orders, Overlaps, match_of};
 ghost use Rattle.answers.specs.Sorting.{SortedLines};
 ghost use Rattle.answers.specs.declared.questions.End.TheVariants as end;
 ghost use Rattle.answers.specs.declared.sorting.Order.TheVariants.{Ascending};
+ghost use Rattle.package_answers.specs.Packages.{IsPackage, PackageParts};
+ghost use Rattle.answers.specs.Parts.{RangeParts, VersionParts};
+ghost use Rattle.package_answers.specs.Names.{NameWithVersionParts};
+ghost use Rattle.package_answers.specs.Specifiers.{DependencyParts, VersionReferenceParts};
+ghost use Rattle.answers.specs.Reading.{IsVersionAt};
+ghost use Rattle.package_answers.specs.References.{ReferenceParts};
 ghost use Rattle.semver_c.specs.Arguments.{pre_release_by};
 ghost use Rattle.semver_c.specs.Codes.{IsCode, IsOneReply, IsPlaceReply, IsPlaced, IsReply, IsReported, IsUntouched, IsUntouchedWithoutValue, always_yes, as_place, best_code, best_place, bool_code, code_of, filter_code, filter_numbers, found_code, found_text, lowest_code, lowest_text, match_code, no_place, no_text, number_of, or_message, or_nothing, order_code, text_code, text_of, three_numbers, unqualified_code, yes};
 ghost use Rattle.semver_c.specs.Held.{IsHeld, IsHeldBest, IsHeldEqual, OfHeld, of_both, of_one, range_in, version_in, versions_in};
-ghost use Rattle.semver_c.specs.Questions.{BestLine, CanonicalBy, CommonBy, CommonOfAll, DependencyBy, DisplayedOf, EquivalentBy, ErrorsBy, ExplainsBy, ExportNameOf, Filters, Fits, LowestBy, MatchesHeld, NameWithVersionOf, NumbersOf, OrdersOf, OutsideBy, OverlapsBy, PackageBy, PackageErrorsBy, PackageOf, RangeBy, RangesBy, ReferenceErrorsOf, ReferenceOf, SortsOf, TagBy, VersionErrorOf, VersionListOf, VersionOf, VersionPartsOf, VersionReferenceOf, WhyBy};
+ghost use Rattle.semver_c.specs.Questions.{BestLine, ByOne, ByTwo, CommonBy, CommonOfAll, EquivalentBy, ErrorsBy, ExplainsBy, ExportNameOf, Filters, Fits, LowestBy, MatchesHeld, NumbersOf, OfText, OfTexts, OutsideBy, PackageErrorsBy, RangeBy, ReferenceErrorsOf, SortsOf, TagBy, VersionErrorOf, VersionListOf, WhyBy};
 ghost use Rattle.semver_c.specs.declared.codes.Code.{Code};
 ghost use Rattle.semver_c.specs.declared.codes.Code.TheVariants as code;
 
@@ -82,8 +88,9 @@ pub extern "C" fn semver_fits(
 /// The order of two versions, builds aside: before, same or after. With an invalid version `place` is which of the two it is.
 #[unsafe(no_mangle)]
 pub extern "C" fn semver_compare(alloc: Global, one: &[u8], other: &[u8], place: &mut usize) -> i32
-    ensures code { IsCode (OrdersOf one.now other.now) order_code result }
-    ensures place { IsPlaceReply (OrdersOf one.now other.now) no_place place.old place.new result }
+    ensures code { IsCode (OfTexts one.now other.now Orders) order_code result }
+    ensures place { IsPlaceReply (OfTexts one.now other.now Orders) no_place
+        place.old place.new result }
 {
     let answer = order_of(alloc, one, other);
     put_place(&answer, place);
@@ -103,8 +110,8 @@ pub extern "C" fn semver_overlap(
     other: &[u8],
     place: &mut usize,
 ) -> i32
-    ensures code { IsCode (OverlapsBy grammar one.now other.now) bool_code result }
-    ensures place { IsPlaceReply (OverlapsBy grammar one.now other.now) no_place
+    ensures code { IsCode (ByTwo grammar one.now other.now Overlaps) bool_code result }
+    ensures place { IsPlaceReply (ByTwo grammar one.now other.now Overlaps) no_place
         place.old place.new result }
 {
     let answer = overlap(alloc, grammar, one, other);
@@ -236,7 +243,7 @@ pub extern "C" fn semver_normal(
     out: &mut [u8],
     needed: &mut usize,
 ) -> i32
-    ensures { IsReply (CanonicalBy grammar range.now) always_yes (or_message (λ text. text))
+    ensures { IsReply (ByOne grammar range.now Canonical) always_yes (or_message (λ text. text))
         out.old out.new needed.new result }
 {
     report_text(canonical_form(alloc, grammar, range), out, needed)
@@ -271,7 +278,7 @@ pub extern "C" fn semver_version(
     out: &mut [u8],
     needed: &mut usize,
 ) -> i32
-    ensures { IsReply (DisplayedOf version.now) always_yes (or_message (λ text. text))
+    ensures { IsReply (OfText version.now Displayed) always_yes (or_message (λ text. text))
         out.old out.new needed.new result }
 {
     report_text(displayed_version(alloc, version), out, needed)
@@ -383,7 +390,7 @@ pub extern "C" fn semver_package(
     out: &mut [u8],
     needed: &mut usize,
 ) -> i32
-    ensures { IsReply (PackageBy grammar text.now) always_yes (or_message (λ text. text))
+    ensures { IsReply (ByOne grammar text.now PackageParts) always_yes (or_message (λ text. text))
         out.old out.new needed.new result }
 {
     report_text(package_of(alloc, grammar, text), out, needed)
@@ -424,7 +431,7 @@ pub extern "C" fn semver_reference(
     out: &mut [u8],
     needed: &mut usize,
 ) -> i32
-    ensures { IsReply (ReferenceOf text.now) always_yes (or_message (λ text. text))
+    ensures { IsReply (OfText text.now ReferenceParts) always_yes (or_message (λ text. text))
         out.old out.new needed.new result }
 {
     report_text(reference_of(alloc, text), out, needed)
@@ -467,7 +474,7 @@ pub extern "C" fn semver_version_parts(
     out: &mut [u8],
     needed: &mut usize,
 ) -> i32
-    ensures { IsReply (VersionPartsOf version.now) always_yes (or_message (λ text. text))
+    ensures { IsReply (OfText version.now VersionParts) always_yes (or_message (λ text. text))
         out.old out.new needed.new result }
 {
     report_text(version_parts_of(alloc, version), out, needed)
@@ -507,7 +514,7 @@ pub extern "C" fn semver_ranges(
     out: &mut [u8],
     needed: &mut usize,
 ) -> i32
-    ensures { IsReply (RangesBy grammar range.now) text_code (or_message text_of)
+    ensures { IsReply (ByOne grammar range.now RangeParts) text_code (or_message text_of)
         out.old out.new needed.new result }
 {
     report_text_or_tag(ranges_of(alloc, grammar, range), out, needed)
@@ -573,7 +580,7 @@ pub extern "C" fn semver_name_with_version(
     out: &mut [u8],
     needed: &mut usize,
 ) -> i32
-    ensures { IsReply (NameWithVersionOf text.now) always_yes (or_message (λ text. text))
+    ensures { IsReply (OfText text.now NameWithVersionParts) always_yes (or_message (λ text. text))
         out.old out.new needed.new result }
 {
     report_text(name_with_version_of(alloc, text), out, needed)
@@ -587,7 +594,7 @@ pub extern "C" fn semver_version_reference(
     out: &mut [u8],
     needed: &mut usize,
 ) -> i32
-    ensures { IsReply (VersionReferenceOf text.now) always_yes (or_message (λ text. text))
+    ensures { IsReply (OfText text.now VersionReferenceParts) always_yes (or_message (λ text. text))
         out.old out.new needed.new result }
 {
     report_text(version_reference_of(alloc, text), out, needed)
@@ -602,8 +609,8 @@ pub extern "C" fn semver_dependency(
     out: &mut [u8],
     needed: &mut usize,
 ) -> i32
-    ensures { IsReply (DependencyBy grammar text.now) always_yes (or_message (λ text. text))
-        out.old out.new needed.new result }
+    ensures { IsReply (ByOne grammar text.now DependencyParts) always_yes
+        (or_message (λ text. text)) out.old out.new needed.new result }
 {
     report_text(dependency_of(alloc, grammar, text), out, needed)
 }
@@ -663,9 +670,9 @@ pub extern "C" fn semver_package_read(
     out: &mut [u8],
     needed: &mut usize,
 ) -> i32
-    ensures held { IsHeld (PackageOf grammar text.now) (λ req. req.version_req) range_in
+    ensures held { IsHeld (ByOne grammar text.now IsPackage) (λ req. req.version_req) range_in
         handle.old.value handle.new.value result }
-    ensures text { IsReply (PackageOf grammar text.now) always_yes
+    ensures text { IsReply (ByOne grammar text.now IsPackage) always_yes
         (or_message (λ req. req.name)) out.old out.new needed.new result }
 {
     match read_package_of(alloc, grammar, text) {
@@ -686,9 +693,9 @@ pub extern "C" fn semver_version_read(
     out: &mut [u8],
     needed: &mut usize,
 ) -> i32
-    ensures held { IsHeld (VersionOf text.now) (λ version. version) version_in
+    ensures held { IsHeld (OfText text.now (IsVersionAt 0)) (λ version. version) version_in
         handle.old.value handle.new.value result }
-    ensures text { IsReply (VersionOf text.now) always_yes (or_message version_text)
+    ensures text { IsReply (OfText text.now (IsVersionAt 0)) always_yes (or_message version_text)
         out.old out.new needed.new result }
 {
     match read_version(alloc, text) {

@@ -6,13 +6,19 @@ ghost use Rattle.std.specs.Option.{option_copied, option_map};
 ghost use Rattle.semver_base.specs.VersionText.{version_text};
 ghost use Rattle.semver_req.specs.Requirement.{inner_text, tag_of};
 ghost use Rattle.answers.specs.Filtering.{list_answer, list_matches};
-ghost use Rattle.answers.specs.Questions.{match_of};
+ghost use Rattle.answers.specs.Questions.{Canonical, Displayed, Orders, Overlaps, match_of};
 ghost use Rattle.answers.specs.Sorting.{SortedLines};
 ghost use Rattle.answers.specs.declared.sorting.Order.TheVariants.{Ascending};
+ghost use Rattle.package_answers.specs.Packages.{IsPackage, PackageParts};
+ghost use Rattle.answers.specs.Parts.{RangeParts, VersionParts};
+ghost use Rattle.package_answers.specs.Names.{NameWithVersionParts};
+ghost use Rattle.package_answers.specs.Specifiers.{DependencyParts, VersionReferenceParts};
+ghost use Rattle.answers.specs.Reading.{IsVersionAt};
+ghost use Rattle.package_answers.specs.References.{ReferenceParts};
 ghost use Rattle.semver_c.specs.Arguments.{IsCallAnswer, IsCallOutcome, IsOneCallAnswer, pre_release_by};
 ghost use Rattle.semver_c.specs.Codes.{match_code};
 ghost use Rattle.semver_c.specs.Held.{IsHeldBest, OfHeld, of_both, of_one};
-ghost use Rattle.semver_c.specs.Questions.{BestLine, CanonicalBy, CommonBy, CommonOfAll, DependencyBy, DisplayedOf, EquivalentBy, ErrorsBy, ExplainsBy, ExportNameOf, Filters, Fits, LowestBy, MatchesHeld, NameWithVersionOf, NumbersOf, OrdersOf, OutsideBy, OverlapsBy, PackageBy, PackageErrorsBy, PackageOf, RangeBy, RangesBy, ReferenceErrorsOf, ReferenceOf, SortsOf, TagBy, VersionErrorOf, VersionListOf, VersionOf, VersionPartsOf, VersionReferenceOf, WhyBy};
+ghost use Rattle.semver_c.specs.Questions.{BestLine, ByOne, ByTwo, CommonBy, CommonOfAll, EquivalentBy, ErrorsBy, ExplainsBy, ExportNameOf, Filters, Fits, LowestBy, MatchesHeld, NumbersOf, OfText, OfTexts, OutsideBy, PackageErrorsBy, RangeBy, ReferenceErrorsOf, SortsOf, TagBy, VersionErrorOf, VersionListOf, WhyBy};
 
 use crate::arguments::{
     Problem, Subject, line_list, pre_release, subject_of, text, with_text, with_texts,
@@ -49,7 +55,7 @@ pub fn explanation_of(
     pre_releases: u32,
 ) -> Result<Answer<String>, Problem>
     ensures { IsOneCallAnswer (ExplainsBy pre_releases grammar range.now)
-        (λ answer. list_answer (λ text. string_bytes text) answer) result }
+        (λ answer. list_answer string_bytes answer) result }
 {
     let given = with_text(grammar, range)?;
     explain_as_json(alloc, given.flavour, pre_release(pre_releases), given.text).map_err(
@@ -59,7 +65,7 @@ pub fn explanation_of(
 
 /// What is wrong with the range, and where?
 pub fn errors_of(alloc: Global, grammar: u32, range: &[u8]) -> Result<String, Problem>
-    ensures { IsOneCallAnswer (ErrorsBy grammar range.now) (λ text. string_bytes text) result }
+    ensures { IsOneCallAnswer (ErrorsBy grammar range.now) string_bytes result }
 {
     let given = with_text(grammar, range)?;
     errors_of_range(alloc, given.flavour, given.text).map_err(Problem::from)
@@ -68,7 +74,7 @@ pub fn errors_of(alloc: Global, grammar: u32, range: &[u8]) -> Result<String, Pr
 /// What is wrong with the package, and where?
 pub fn package_errors_of(alloc: Global, grammar: u32, bytes: &[u8]) -> Result<String, Problem>
     ensures { IsOneCallAnswer (PackageErrorsBy grammar bytes.now)
-        (λ text. string_bytes text) result }
+        string_bytes result }
 {
     let given = with_text(grammar, bytes)?;
     package_errors_text(alloc, given.flavour, given.text).map_err(Problem::from)
@@ -76,7 +82,7 @@ pub fn package_errors_of(alloc: Global, grammar: u32, bytes: &[u8]) -> Result<St
 
 /// What is wrong with the reference, and where?
 pub fn reference_errors_of(alloc: Global, reference: &[u8]) -> Result<String, Problem>
-    ensures { IsOneCallAnswer (ReferenceErrorsOf reference.now) (λ text. string_bytes text) result }
+    ensures { IsOneCallAnswer (ReferenceErrorsOf reference.now) string_bytes result }
 {
     let text = text(reference)?;
     reference_errors_text(alloc, text).map_err(Problem::from)
@@ -167,7 +173,7 @@ pub fn sorted_lines(alloc: Global, versions: &[u8]) -> Result<Vec<usize>, Proble
 
 /// Which of the two versions comes before the other?
 pub fn order_of(alloc: Global, one: &[u8], other: &[u8]) -> Result<Ordering, Problem>
-    ensures { IsCallAnswer (OrdersOf one.now other.now) (λ order. order) result }
+    ensures { IsCallAnswer (OfTexts one.now other.now Orders) (λ order. order) result }
 {
     let one = text(one)?;
     let other = text(other)?;
@@ -176,7 +182,7 @@ pub fn order_of(alloc: Global, one: &[u8], other: &[u8]) -> Result<Ordering, Pro
 
 /// Do the two ranges overlap?
 pub fn overlap(alloc: Global, grammar: u32, one: &[u8], other: &[u8]) -> Result<bool, Problem>
-    ensures { IsCallAnswer (OverlapsBy grammar one.now other.now) (λ answer. answer) result }
+    ensures { IsCallAnswer (ByTwo grammar one.now other.now Overlaps) (λ answer. answer) result }
 {
     let given = with_texts(grammar, one, other)?;
     overlaps(alloc, given.flavour, given.one, given.other).map_err(Problem::from)
@@ -266,7 +272,7 @@ pub fn outside(
 
 /// What is the canonical form of the range?
 pub fn canonical_form(alloc: Global, grammar: u32, range: &[u8]) -> Result<String, Problem>
-    ensures { IsCallAnswer (CanonicalBy grammar range.now) (λ text. string_bytes text) result }
+    ensures { IsCallAnswer (ByOne grammar range.now Canonical) string_bytes result }
 {
     let given = with_text(grammar, range)?;
     canonical(alloc, given.flavour, given.text).map_err(Problem::from)
@@ -290,7 +296,7 @@ pub fn names_tag(alloc: Global, grammar: u32, bytes: &[u8]) -> Result<bool, Prob
 
 /// How is the version displayed?
 pub fn displayed_version(alloc: Global, version: &[u8]) -> Result<String, Problem>
-    ensures { IsCallAnswer (DisplayedOf version.now) (λ text. string_bytes text) result }
+    ensures { IsCallAnswer (OfText version.now Displayed) string_bytes result }
 {
     let text = text(version)?;
     displayed(alloc, text).map_err(Problem::from)
@@ -298,7 +304,7 @@ pub fn displayed_version(alloc: Global, version: &[u8]) -> Result<String, Proble
 
 /// What are the parts of the package?
 pub fn package_of(alloc: Global, grammar: u32, bytes: &[u8]) -> Result<String, Problem>
-    ensures { IsCallAnswer (PackageBy grammar bytes.now) (λ text. string_bytes text) result }
+    ensures { IsCallAnswer (ByOne grammar bytes.now PackageParts) string_bytes result }
 {
     let given = with_text(grammar, bytes)?;
     package_parts(alloc, given.flavour, given.text).map_err(Problem::from)
@@ -325,7 +331,7 @@ pub fn why_invalid(
 
 /// What are the parts of the reference?
 pub fn reference_of(alloc: Global, bytes: &[u8]) -> Result<String, Problem>
-    ensures { IsCallAnswer (ReferenceOf bytes.now) (λ text. string_bytes text) result }
+    ensures { IsCallAnswer (OfText bytes.now ReferenceParts) string_bytes result }
 {
     let text = text(bytes)?;
     reference_parts(alloc, text).map_err(Problem::from)
@@ -333,7 +339,7 @@ pub fn reference_of(alloc: Global, bytes: &[u8]) -> Result<String, Problem>
 
 /// What are the parts of the version?
 pub fn version_parts_of(alloc: Global, bytes: &[u8]) -> Result<String, Problem>
-    ensures { IsCallAnswer (VersionPartsOf bytes.now) (λ text. string_bytes text) result }
+    ensures { IsCallAnswer (OfText bytes.now VersionParts) string_bytes result }
 {
     let text = text(bytes)?;
     version_parts(alloc, text).map_err(Problem::from)
@@ -341,8 +347,8 @@ pub fn version_parts_of(alloc: Global, bytes: &[u8]) -> Result<String, Problem>
 
 /// What are the ranges of the range?
 pub fn ranges_of(alloc: Global, grammar: u32, bytes: &[u8]) -> Result<Answer<String>, Problem>
-    ensures { IsCallAnswer (RangesBy grammar bytes.now)
-        (λ answer. list_answer (λ text. string_bytes text) answer) result }
+    ensures { IsCallAnswer (ByOne grammar bytes.now RangeParts)
+        (λ answer. list_answer string_bytes answer) result }
 {
     let given = with_text(grammar, bytes)?;
     range_parts(alloc, given.flavour, given.text).map_err(Problem::from)
@@ -350,7 +356,7 @@ pub fn ranges_of(alloc: Global, grammar: u32, bytes: &[u8]) -> Result<Answer<Str
 
 /// What are the parts of the name with a version?
 pub fn name_with_version_of(alloc: Global, bytes: &[u8]) -> Result<String, Problem>
-    ensures { IsCallAnswer (NameWithVersionOf bytes.now) (λ text. string_bytes text) result }
+    ensures { IsCallAnswer (OfText bytes.now NameWithVersionParts) string_bytes result }
 {
     let text = text(bytes)?;
     name_with_version_parts(alloc, text).map_err(Problem::from)
@@ -358,7 +364,7 @@ pub fn name_with_version_of(alloc: Global, bytes: &[u8]) -> Result<String, Probl
 
 /// What are the parts of the reference to a version?
 pub fn version_reference_of(alloc: Global, bytes: &[u8]) -> Result<String, Problem>
-    ensures { IsCallAnswer (VersionReferenceOf bytes.now) (λ text. string_bytes text) result }
+    ensures { IsCallAnswer (OfText bytes.now VersionReferenceParts) string_bytes result }
 {
     let text = text(bytes)?;
     version_reference_parts(alloc, text).map_err(Problem::from)
@@ -366,7 +372,7 @@ pub fn version_reference_of(alloc: Global, bytes: &[u8]) -> Result<String, Probl
 
 /// What are the parts of the dependency?
 pub fn dependency_of(alloc: Global, grammar: u32, bytes: &[u8]) -> Result<String, Problem>
-    ensures { IsCallAnswer (DependencyBy grammar bytes.now) (λ text. string_bytes text) result }
+    ensures { IsCallAnswer (ByOne grammar bytes.now DependencyParts) string_bytes result }
 {
     let given = with_text(grammar, bytes)?;
     dependency_parts(alloc, given.flavour, given.text).map_err(Problem::from)
@@ -401,7 +407,7 @@ pub fn read_range(alloc: Global, grammar: u32, bytes: &[u8]) -> Result<ReadRange
 
 /// Parses a package.
 pub fn read_package_of(alloc: Global, grammar: u32, bytes: &[u8]) -> Result<PackageReq, Problem>
-    ensures { IsCallAnswer (PackageOf grammar bytes.now) (λ req. req) result }
+    ensures { IsCallAnswer (ByOne grammar bytes.now IsPackage) (λ req. req) result }
 {
     let given = with_text(grammar, bytes)?;
     read_package(alloc, given.flavour, given.text).map_err(Problem::from)
@@ -416,7 +422,7 @@ pub struct ReadVersion {
 
 /// Parses a version.
 pub fn read_version(alloc: Global, bytes: &[u8]) -> Result<ReadVersion, Problem>
-    ensures answer { IsCallAnswer (VersionOf bytes.now) (λ read. read.version) result }
+    ensures answer { IsCallAnswer (OfText bytes.now (IsVersionAt 0)) (λ read. read.version) result }
     ensures displayed { IfOk result
         (λ read. string_bytes read.displayed ≡ version_text read.version) }
 {
