@@ -1,5 +1,5 @@
 -- Where a bound is too large: at the first comparator that overflows.
-use Rattle.std.proofs.Common.{◌≡◌, ◌-◌, ℕ, Bool, true, false, List, [], ◌∷◌, ◌++◌, length, None, refl, sym, ap, subst, ◌∙◌, arith, inl, inr, append_assoc, append-nil, length-append}
+use Rattle.std.proofs.Common.{◌≡◌, ◌≤◌, ◌+◌, ◌-◌, ℕ, Bool, true, false, List, [], ◌∷◌, ◌++◌, length, None, refl, sym, ap, subst, ◌∙◌, arith, inl, inr, append-nil, length-append}
 use Rattle.std.specs.List.{list_all, list_any}
 use Rattle.std.proofs.lemmas.Bool.{and_parts, both_ways, cases_Bool}
 use Rattle.semver_base.specs.Comparators.{Comparator, comparator_line}
@@ -8,7 +8,7 @@ use Rattle.semver_base.specs.PartialTable.{IsBoundRejection, all_fit}
 use Rattle.semver_base.specs.declared.failure.Rejection.TheVariants.{BoundTooLarge}
 use Rattle.semver_base.specs.declared.lexical.values.Measured.TheVariants.{Fits, TooLarge}
 use Rattle.semver_base.specs.declared.partial.Partial.{Partial}
-use Rattle.semver_req.specs.Causes.{AreFollowed, IsBoundAt, IsRejected, IsStrictRejection, comparator, front_bound, hyphen_range, none_before, one_more, overflows}
+use Rattle.semver_req.specs.Causes.{IsBoundAt, IsFirstOverflow, IsRejected, IsStrictRejection, comparator, front_bound, hyphen_range, later_overflows, overflows, this_overflows}
 use Rattle.semver_req.specs.Comparators.{IsComparator}
 use Rattle.semver_req.specs.Parsers.{Failure}
 use Rattle.semver_req.specs.Partials.{sized_partial}
@@ -92,29 +92,38 @@ module _ (f : Flavour) (cuts : IsCutting f) (text : List ℕ) where
 
 module _ (f : Flavour) (text : List ℕ) where
   pub first_overflows : {c : Comparator} {rest : List ℕ} → IsLongest (IsComparator f) text c rest → overflows c ≡ true → IsBoundAt f text 0
-  first_overflows l y = comparator refl none_before refl l y
+  first_overflows l y = comparator (this_overflows l y)
 
-  -- with a separator behind it, each comparator so far is followed
-  abbrev pub AreBefore : List Comparator → List ℕ → Type 0
-  AreBefore items rest = (separator next : List ℕ) → IsSeparator f separator tt → rest ≡ separator ++ next → (before : List ℕ) × (text ≡ before ++ next) × AreFollowed f items before
+  -- the rest is an end of the text, and what is first to overflow behind the separator that follows is so in the text
+  pub record Reaches (rest : List ℕ) : Type 0 where
+    pub within : length rest ≤ length text
+    pub reached : (next : List ℕ) (place : ℕ) → IsLongest (IsSeparator f) rest tt next → IsFirstOverflow f next place → IsFirstOverflow f text ((length text - length next) + place)
 
-  pub first_before : (c : Comparator) {rest : List ℕ} → IsLongest (IsComparator f) text c rest → AreBefore (c ∷ []) rest
-  first_before c {rest} l = λ separator next h e. (l.front ++ separator, l.text_is ∙ (ap (λ t. l.front ++ t) e ∙ sym (append_assoc l.front separator next)), one_more c l.front separator none_before l.stands h)
+  pub first_before : (c : Comparator) {rest : List ℕ} → IsLongest (IsComparator f) text c rest → overflows c ≡ false → Reaches rest
+  first_before c {rest} l n = record {
+    within = omega (arith, ap length l.text_is, length-append l.front rest);
+    reached = λ next place s k. later_overflows l n s k;
+  }
 
-  module _ (items : List Comparator) {rest next : List ℕ} (so_far : AreBefore items rest) (s : IsLongest (IsSeparator f) rest tt next) where
-    at_next : (before : List ℕ) × (text ≡ before ++ next) × AreFollowed f items before
-    at_next = so_far s.front next s.stands s.text_is
+  module _ {rest next : List ℕ} (so_far : Reaches rest) (s : IsLongest (IsSeparator f) rest tt next) where
+    pub next_before : (c : Comparator) {more : List ℕ} → IsLongest (IsComparator f) next c more → overflows c ≡ false → Reaches more
+    next_before c {more} l n = record { within = omega (arith, so_far.within, rest_is, next_is); reached = reached }
+      where
+        rest_is : length rest ≡ length s.front + length next
+        rest_is = ap length s.text_is ∙ length-append s.front next
 
-    pub next_before : (c : Comparator) {more : List ℕ} → IsLongest (IsComparator f) next c more → AreBefore (items ++ c ∷ []) more
-    next_before c {more} l = λ separator after h e.
-        let whole : text ≡ (at_next.0 ++ (l.front ++ separator)) ++ after =
-        at_next.1 ∙ (ap (λ t. at_next.0 ++ t) (l.text_is ∙ (ap (λ t. l.front ++ t) e ∙ sym (append_assoc l.front separator after))) ∙ sym (append_assoc at_next.0 (l.front ++ separator) after)) in
-        (at_next.0 ++ (l.front ++ separator), whole, one_more c l.front separator at_next.2 l.stands h)
+        next_is : length next ≡ length l.front + length more
+        next_is = ap length l.text_is ∙ length-append l.front more
 
-    pub next_overflows : {c : Comparator} {more : List ℕ} (place : ℕ) → place ≡ length text - length next → list_any overflows items ≡ false → IsLongest (IsComparator f) next c more → overflows c ≡ true → IsBoundAt f text place
-    next_overflows place there none l y =
-        let size : length at_next.0 ≡ place = omega (arith, there, ap length at_next.1, length-append at_next.0 next) in
-        subst (IsBoundAt f text) size (comparator at_next.1 at_next.2 none l y)
+        reached : (after : List ℕ) (place : ℕ) → IsLongest (IsSeparator f) more tt after → IsFirstOverflow f after place → IsFirstOverflow f text ((length text - length after) + place)
+        reached after place t k =
+            let there : (length text - length next) + ((length next - length after) + place) ≡ (length text - length after) + place = omega (arith, so_far.within, rest_is, next_is, ap length t.text_is, length-append t.front after) in
+            subst (IsFirstOverflow f text) there (so_far.reached next _ s (later_overflows l n t k))
+
+    pub next_overflows : {c : Comparator} {more : List ℕ} (place : ℕ) → place ≡ length text - length next → IsLongest (IsComparator f) next c more → overflows c ≡ true → IsBoundAt f text place
+    next_overflows place there l y =
+        let here : (length text - length next) + 0 ≡ place = omega (arith, there) in
+        subst (IsBoundAt f text) here (comparator (so_far.reached next 0 s (this_overflows l y)))
 
 pub one_more_none : (cs : List Comparator) (c : Comparator) {b : Bool} → list_any overflows cs ≡ false → b ≡ overflows c → b ≡ false → list_any overflows (cs ++ c ∷ []) ≡ false
 one_more_none cs c none e n = one_more_not cs c none (sym e ∙ n)
@@ -123,7 +132,7 @@ one_more_none cs c none e n = one_more_not cs c none (sym e ∙ n)
 
 strict_bound : {text : List ℕ} → IsStrictRejection text BoundTooLarge → IsBoundAt Specifier text 0
 strict_bound r = elim r [
-  | front_bound l fit large ↦ comparator refl none_before refl l (rw (fit, large) refl)
+  | front_bound l fit large ↦ comparator (this_overflows l (rw (fit, large) refl))
 ]
 
 -- ---- of each grammar

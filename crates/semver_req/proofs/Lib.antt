@@ -12,6 +12,7 @@ pub mod LowestRead
 pub mod LedReadings
 pub mod Operators
 pub mod NpmComparators
+pub mod OneListOfErrors
 pub mod OneOutcome
 pub mod OneReason
 pub mod OutcomesFit

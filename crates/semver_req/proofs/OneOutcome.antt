@@ -13,22 +13,22 @@ use Rattle.semver_req.proofs.PieceReadings.{whitespace_piece, piece_one}
 
 -- ---- how a text is split
 
-cut_one : {text piece more rest end : List ℕ} → IsCutAt text piece rest → IsCutAt text more end → (piece ≡ more) × (rest ≡ end)
+pub cut_one : {text piece more rest end : List ℕ} → IsCutAt text piece rest → IsCutAt text more end → (piece ≡ more) × (rest ≡ end)
 cut_one {text} {piece} {more} {rest} {end} p q =
     let even : length piece ≡ length more = omega (arith, p.leftmost more end q.text_is, q.leftmost piece rest p.text_is) in
     let both = same_fronts piece more (124 ∷ 124 ∷ rest) (124 ∷ 124 ∷ end) (sym p.text_is ∙ q.text_is) even in
     (both.0, cc (both.1))
 
-no_cut : {T : Type 0} {text piece rest : List ℕ} → HasNoBar text → IsCutAt text piece rest → T
+pub no_cut : {T : Type 0} {text piece rest : List ℕ} → HasNoBar text → IsCutAt text piece rest → T
 no_cut {piece = piece} {rest = rest} n c = absurd (n piece rest c.text_is)
 
-trimmed_one : {text rest end : List ℕ} → IsTrimmed text rest → IsTrimmed text end → rest ≡ end
+pub trimmed_one : {text rest end : List ℕ} → IsTrimmed text rest → IsTrimmed text end → rest ≡ end
 trimmed_one p q = (one_front p.longest q.longest).1
 
-cut_some : {text piece rest : List ℕ} → IsCutAt text piece rest → 0 < length text
+pub cut_some : {text piece rest : List ℕ} → IsCutAt text piece rest → 0 < length text
 cut_some {piece = piece} {rest = rest} c = omega (arith, ap length c.text_is, length-append piece (124 ∷ 124 ∷ rest))
 
-none_some : {T : Type 0} (text : List ℕ) → [] ≡ text → 0 < length text → T
+pub none_some : {T : Type 0} (text : List ℕ) → [] ≡ text → 0 < length text → T
 none_some text e some = absurd (omega (arith, ap length e))
 
 pub more_pieces_one : (x y : List ℕ) (ps qs : List (List ℕ)) → x ≡ y → AreMorePieces x ps → AreMorePieces y qs → ps ≡ qs
@@ -131,7 +131,7 @@ some_or_none {rest = rest} p n = absurd (n.none p.front rest _ p.text_is p.stand
 pub fits_or_not : {T : Type 0} {text rest more : List ℕ} {c d : Comparator} → IsLongest IsSpecifierRange text c rest → IsLongest IsSpecifierRange text d more → fits c ≡ true → fits d ≡ false → T
 fits_or_not p q f g = absurd (let same = (one_front p q).0 in let h : true ≡ false = sym f ∙ (ap fits same ∙ g) in cc h)
 
-whole_or_not : {T : Type 0} {text rest : List ℕ} {c d : Comparator} → IsLongest IsSpecifierRange text c [] → IsLongest IsSpecifierRange text d rest → 0 < length rest → T
+pub whole_or_not : {T : Type 0} {text rest : List ℕ} {c d : Comparator} → IsLongest IsSpecifierRange text c [] → IsLongest IsSpecifierRange text d rest → 0 < length rest → T
 whole_or_not p q some = absurd (omega (arith, some, ap length (one_front p q).1))
 
 specifier_one_outcome : {text : List ℕ} {o u : Outcome} → IsSpecifierOutcome text o → IsSpecifierOutcome text u → o ≡ u

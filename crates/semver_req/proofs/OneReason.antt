@@ -24,7 +24,7 @@ use Rattle.semver_req.proofs.PieceReadings.{piece_one}
 fit_or_not : {T : Type 0} (cs ds : List Comparator) (test : List Comparator → Bool) → cs ≡ ds → test cs ≡ false → test ds ≡ true → T
 fit_or_not cs ds test e lacks every = absurd (let never : false ≡ true = sym lacks ∙ (ap test e ∙ every) in cc never)
 
-piece_reason : (f : Flavour) (piece : List ℕ) (why other : Rejection) → IsPieceRejection f piece why → IsPieceRejection f piece other → why ≡ other
+pub piece_reason : (f : Flavour) (piece : List ℕ) (why other : Rejection) → IsPieceRejection f piece why → IsPieceRejection f piece other → why ≡ other
 piece_reason f piece why other (outside n) (outside m) = refl
 piece_reason f piece why other (outside n) (large_number cs h lacks) = absurd (n cs h)
 piece_reason f piece why other (outside n) (large_bound cs h every lacks) = absurd (n cs h)
@@ -51,13 +51,13 @@ cut_reason f text failure other (bad_piece {rejection = why} h i) (bad_piece {b 
 -- ---- the strict grammar
 
 -- the longest comparator at the front is the same
-front_fits : {T : Type 0} {text rest more : List ℕ} {c d : Comparator} (test : Comparator → Bool) → IsLongest IsSpecifierRange text c rest → IsLongest IsSpecifierRange text d more → test c ≡ true → test d ≡ false → T
+pub front_fits : {T : Type 0} {text rest more : List ℕ} {c d : Comparator} (test : Comparator → Bool) → IsLongest IsSpecifierRange text c rest → IsLongest IsSpecifierRange text d more → test c ≡ true → test d ≡ false → T
 front_fits test p q every lacks = absurd (let never : true ≡ false = sym every ∙ (ap test (one_front p q).0 ∙ lacks) in cc never)
 
-number_no_fit : (c : Comparator) → all_fit (comparator_numbers c) ≡ false → fits c ≡ false
+pub number_no_fit : (c : Comparator) → all_fit (comparator_numbers c) ≡ false → fits c ≡ false
 number_no_fit c lacks = rw lacks refl
 
-bound_no_fit : (c : Comparator) → all_fit (comparator_numbers c) ≡ true → all_fit (comparator_line c).sums ≡ false → fits c ≡ false
+pub bound_no_fit : (c : Comparator) → all_fit (comparator_numbers c) ≡ true → all_fit (comparator_line c).sums ≡ false → fits c ≡ false
 bound_no_fit c every lacks = rw (every, lacks) refl
 
 strict_reason : (text : List ℕ) (failure other : Failure) → IsSpecifierRejection text failure → IsSpecifierRejection text other → (failure ≡ None → ⊥) → (other ≡ None → ⊥) → failure ≡ other

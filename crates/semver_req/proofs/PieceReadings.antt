@@ -224,6 +224,34 @@ no_both = record { both = λ text v w h k. differ (one_layout true false text (h
     differ : true ≡ false → ⊥
     differ e = cc e
 
+-- a text that begins with a comparator begins neither with a byte of a separator nor with a hyphen
+comparator_stops : (text : List ℕ) {c : Comparator} {rest : List ℕ} → IsLongest (IsComparator Npm) text c rest → Stops is_separator_byte text × (false ≡ is_hyphen text)
+comparator_stops [] l = (tt, refl)
+comparator_stops (x ∷ text) {c} {rest} l = go l.front l.text_is l.stands
+  where
+    go : (a : List ℕ) → x ∷ text ≡ a ++ rest → IsComparator Npm a c → Stops is_separator_byte (x ∷ text) × (false ≡ is_hyphen (x ∷ text))
+    go [] e h = absurd ((comparator_some Npm).some c h)
+    go (y ∷ a) e h =
+        let same : x ≡ y = cc e in
+        let start : is_start_byte x ≡ true = rw same ((comparator_begins Npm).begins y (record { more = a; value = c; stands = h })) in
+        (stops_at is_separator_byte is_start_byte separator_no_start x start, sym (stops_at (λ x. x == 45) is_start_byte hyphen_no_start x start))
+
+-- a hyphen range has no second comparator
+pub hyphen_no_second : {text rest next more : List ℕ} {c d : Comparator} {cs : List Comparator} → IsHyphen text cs → IsLongest (IsComparator Npm) text c rest → IsLongest IsNpmSeparator rest tt next → IsLongest (IsComparator Npm) next d more → ⊥
+hyphen_no_second {text} {rest} {next} {more} {c} {d} {cs} h l s m = differ (one_layout true false text (hyphen_laid_out text cs h) list)
+  where
+    pass : list_all is_separator_byte s.front ≡ true
+    pass = separator_made.made s.front tt s.stands
+
+    list : IsLaidOut false text
+    list =
+        let core = (comparator_within Npm).texts l.front c l.stands in
+        let stops = comparator_stops next m in
+        record { first = l.front; between = s.front; rest = next; value = core.0; text_is = l.text_is ∙ ap (λ t. l.front ++ t) s.text_is; core = core.1; separate = pass; first_ends = separator_ends s.front next (some_text separator_some s.front s.stands) pass; between_ends = stops.0; next = stops.1 }
+
+    differ : true ≡ false → ⊥
+    differ e = cc e
+
 -- less is left after a separator and a comparator
 pub list_shorter : (f : Flavour) {rest next more : List ℕ} {c : Comparator} → IsLongest (IsSeparator f) rest tt next → IsLongest (IsComparator f) next c more → length more < length rest
 list_shorter f {rest} {next} {more} p q =

@@ -1,6 +1,5 @@
 -- What is wrong with an invalid alternative, and where.
-use Rattle.std.specs.Prelude.{◌≡◌, ◌⊎◌, ◌<◌, ◌&&◌, ℕ, List, [], ◌∷◌, ◌++◌, length, take, Bool, not, true, false, Option, Some, None, IfSome}
-use Rattle.std.specs.List.{list_any}
+use Rattle.std.specs.Prelude.{◌≡◌, ◌⊎◌, ◌+◌, ◌-◌, ◌<◌, ◌&&◌, ℕ, List, length, take, Bool, not, true, false, Option, Some, None, IfSome}
 use Rattle.std.specs.Str.{NoCharPasses}
 use Rattle.std.specs.Str.Pattern.{HasPassingCharAt}
 use Rattle.semver_base.specs.Comparators.{Comparator}
@@ -66,18 +65,18 @@ IsFirstOutsideTag text (Some place) =
 abbrev pub overflows : Comparator → Bool
 overflows c = numbers_fit c && not (sums_fit c)
 
--- comparators, each with the separator that follows
-pub data AreFollowed (f : Flavour) : List Comparator → List ℕ → Type 0 where
-  none_before : AreFollowed f [] []
-  one_more : {cs : List Comparator} {before : List ℕ} (c : Comparator) (text separator : List ℕ) → AreFollowed f cs before
-      → IsComparator f text c → IsSeparator f separator tt → AreFollowed f (cs ++ c ∷ []) (before ++ (text ++ separator))
+-- where the first comparator that overflows starts; the text begins with comparators, with a separator between neighbours
+pub data IsFirstOverflow (f : Flavour) : List ℕ → ℕ → Type 0 where
+  this_overflows : {c : Comparator} {text rest : List ℕ} → IsLongest (IsComparator f) text c rest → overflows c ≡ true
+      → IsFirstOverflow f text 0
+  later_overflows : {c : Comparator} {text rest next : List ℕ} {place : ℕ} → IsLongest (IsComparator f) text c rest
+      → overflows c ≡ false → IsLongest (IsSeparator f) rest tt next → IsFirstOverflow f next place
+      → IsFirstOverflow f text ((length text - length next) + place)
 
--- where an alternative has a bound that is too large: at the start of the first comparator of which that is so, or of a hyphen range
-pub data IsBoundAt (f : Flavour) (piece : List ℕ) : ℕ → Type 0 where
-  comparator : {cs : List Comparator} {c : Comparator} {before rest more : List ℕ} → piece ≡ before ++ rest
-      → AreFollowed f cs before → list_any overflows cs ≡ false → IsLongest (IsComparator f) rest c more
-      → overflows c ≡ true → IsBoundAt f piece (length before)
-  hyphen_range : {cs : List Comparator} → IsHyphen piece cs → IsBoundAt f piece 0
+-- where an alternative has a bound that is too large: at the start of the first comparator that overflows, or of a hyphen range
+pub data IsBoundAt : Flavour → List ℕ → ℕ → Type 0 where
+  comparator : {f : Flavour} {piece : List ℕ} {place : ℕ} → IsFirstOverflow f piece place → IsBoundAt f piece place
+  hyphen_range : {piece : List ℕ} {cs : List Comparator} → IsHyphen piece cs → IsBoundAt Npm piece 0
 
 -- where an alternative is wrong: at the place at which it leaves the grammar; but if that is its start, and tags begin like it, at the
 -- first character that no tag has. If a number is too large, at the place at which it leaves the grammar of numbers that fit: at the digit

@@ -1,25 +1,20 @@
 -- The alternatives of a text that are invalid, where they stand, and what is wrong in each.
-use Rattle.std.specs.Prelude.{◌≡◌, ◌+◌, ◌-◌, ℕ, List, [], ◌∷◌, ◌++◌, length, Bool, true, false, Option}
+use Rattle.std.specs.Prelude.{◌≡◌, ◌+◌, ◌-◌, ◌<◌, ℕ, List, [], ◌∷◌, ◌++◌, length, map, Bool, true, false, Option, Some, None}
 use Rattle.std.specs.Str.{trim}
 use Rattle.semver_base.specs.Comparators.{Comparator}
 use Rattle.semver_base.specs.Grammar.{IsLongest}
 use Rattle.semver_base.specs.Lexical.{IsWhitespace}
+use Rattle.semver_base.specs.declared.failure.Rejection.{Rejection}
 use Rattle.semver_req.specs.Comparators.{fits}
 use Rattle.semver_req.specs.Outcome.{IsBad, IsGood, IsSpecifierRange}
-use Rattle.semver_req.specs.Pieces.{ArePieces}
+use Rattle.semver_req.specs.Pieces.{HasNoBar, IsCutAt, IsTrimmed}
 use Rattle.semver_req.specs.declared.common.values.Flavour.{Flavour}
 use Rattle.semver_req.specs.declared.common.values.Flavour.TheVariants.{Npm, Normal, Specifier}
 use Rattle.semver_req.specs.Causes.{IsCauseAt, IsFirstOutsideTag, IsRejected, rejection_of}
+use Rattle.semver_req.specs.declared.error_places.causes.Cause.{Cause}
+use Rattle.semver_req.specs.declared.error_places.causes.Cause.TheVariants.{Unexpected, NoTag, Empty, NumberTooLarge, BoundTooLarge}
+use Rattle.semver_req.specs.declared.error_places.expected.Kind.{Kind}
 use Rattle.semver_req.specs.declared.error_places.pieces.InvalidPiece.{InvalidPiece}
-
--- from this place on the text has these pieces
-pub record StartAt (text : List ℕ) (start : ℕ) (pieces : List (List ℕ)) : Type 0 where
-  pub before : List ℕ
-  pub rest : List ℕ
-  pub text_is : text ≡ before ++ rest
-  pub there : length before ≡ start
-  pub followed : Bool
-  pub are_pieces : ArePieces rest followed pieces
 
 -- what is wrong with a piece that starts here, and where
 pub record IsErrorOf (f : Flavour) (start : ℕ) (piece : List ℕ) (e : InvalidPiece) : Type 0 where
@@ -32,22 +27,31 @@ pub record IsErrorOf (f : Flavour) (start : ℕ) (piece : List ℕ) (e : Invalid
   pub is_place : IsCauseAt f piece outside e.cause place
   pub there : e.place ≡ start + place
 
--- the invalid ones of these pieces, in their order, by indexes that count what stands before the text, too; true if the first
--- piece is followed by `||`
-pub data AreErrors (f : Flavour) (before : ℕ) (text : List ℕ) : Bool → List (List ℕ) → List InvalidPiece → Type 0 where
-  none_left : {b : Bool} → AreErrors f before text b [] []
-  good : {b : Bool} {piece : List ℕ} {pieces : List (List ℕ)} {errors : List InvalidPiece} (cs : List Comparator)
-      → IsGood f b piece cs → AreErrors f before text false pieces errors → AreErrors f before text b (piece ∷ pieces) errors
-  bad : {b : Bool} {piece : List ℕ} {pieces : List (List ℕ)} {start : ℕ} {e : InvalidPiece} {errors : List InvalidPiece}
-      → IsBad f b piece → StartAt text start (piece ∷ pieces) → IsErrorOf f (before + start) piece e
-      → AreErrors f before text false pieces errors → AreErrors f before text b (piece ∷ pieces) (e ∷ errors)
+-- a piece that starts here is valid, or this is its error
+abbrev pub IsErrorAt : Flavour → Bool → ℕ → List ℕ → List InvalidPiece → Type 0
+IsErrorAt f b start piece [] = (cs : List Comparator) × IsGood f b piece cs
+IsErrorAt f b start piece (e ∷ []) = IsBad f b piece × IsErrorOf f start piece e
+IsErrorAt f b start piece (e ∷ d ∷ errors) = ⊥
 
--- those of a text that is split at its `||`, with so many bytes before it
-pub record AreErrorsOf (f : Flavour) (before : ℕ) (text : List ℕ) (errors : List InvalidPiece) : Type 0 where
-  pub followed : Bool
-  pub pieces : List (List ℕ)
-  pub are_pieces : ArePieces text followed pieces
-  pub among : AreErrors f before text followed pieces errors
+-- the errors of the pieces of what follows a `||`, in their order, with so many bytes before it, which the indexes count, too: each
+-- piece starts behind the whitespace that is skipped
+pub data AreMoreErrors (f : Flavour) : ℕ → List ℕ → List InvalidPiece → Type 0 where
+  no_piece : {before : ℕ} {text : List ℕ} → IsTrimmed text [] → AreMoreErrors f before text []
+  last_piece : {before : ℕ} {text piece : List ℕ} {errors : List InvalidPiece} → IsTrimmed text piece → 0 < length piece
+      → HasNoBar piece → IsErrorAt f false (before + (length text - length piece)) piece errors
+      → AreMoreErrors f before text errors
+  cut_piece : {before : ℕ} {text start piece rest : List ℕ} {errors : List InvalidPiece} (these : List InvalidPiece)
+      → IsTrimmed text start → IsCutAt start piece rest
+      → IsErrorAt f false (before + (length text - length start)) piece these
+      → AreMoreErrors f (before + (length text - length rest)) rest errors → AreMoreErrors f before text (these ++ errors)
+
+-- the errors of the pieces of a text, split at its leftmost `||`, then the rest, and so on
+pub data AreErrorsOf (f : Flavour) (before : ℕ) (text : List ℕ) : List InvalidPiece → Type 0 where
+  one_piece : {errors : List InvalidPiece} → HasNoBar text → IsErrorAt f false before text errors
+      → AreErrorsOf f before text errors
+  first_cut : {piece rest : List ℕ} {errors : List InvalidPiece} (these : List InvalidPiece) → IsCutAt text piece rest
+      → IsErrorAt f true before piece these → AreMoreErrors f (before + (length text - length rest)) rest errors
+      → AreErrorsOf f before text (these ++ errors)
 
 -- those of a text that is trimmed first
 pub record AreTrimmedErrors (f : Flavour) (before : ℕ) (text : List ℕ) (errors : List InvalidPiece) : Type 0 where
@@ -70,10 +74,21 @@ AreInvalidBehind Specifier before text errors = IsStrictError before text errors
 abbrev pub AreInvalidPieces : Flavour → List ℕ → List InvalidPiece → Type 0
 AreInvalidPieces f text errors = AreInvalidBehind f 0 text errors
 
--- ---- steps
+-- ---- one list
 
--- a piece that starts here is valid, or this is its error
-abbrev pub IsErrorAt : Flavour → Bool → ℕ → List ℕ → List InvalidPiece → Type 0
-IsErrorAt f b start piece [] = (cs : List Comparator) × IsGood f b piece cs
-IsErrorAt f b start piece (e ∷ []) = IsBad f b piece × IsErrorOf f start piece e
-IsErrorAt f b start piece (e ∷ d ∷ errors) = ⊥
+-- what a cause says is expected: kinds of text, and whether a text may end
+abbrev pub expectation : Cause → Option (List Kind × Bool)
+expectation (Unexpected e) = Some (e.kinds.items, e.may_end)
+expectation NoTag = None
+expectation Empty = None
+expectation NumberTooLarge = None
+expectation BoundTooLarge = None
+
+-- what an error says: its three indexes, why the alternative is rejected, and what is expected
+abbrev pub reported : InvalidPiece → ℕ × ℕ × ℕ × Rejection × Option (List Kind × Bool)
+reported e = (e.start, e.end, e.place, rejection_of e.cause, expectation e.cause)
+
+-- a text has one list of errors: two say the same
+abbrev pub TextsHaveOneListOfErrors : Type 0
+TextsHaveOneListOfErrors = (f : Flavour) (before : ℕ) (text : List ℕ) (errors others : List InvalidPiece)
+    → AreInvalidBehind f before text errors → AreInvalidBehind f before text others → map reported errors ≡ map reported others

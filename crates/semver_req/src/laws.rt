@@ -13,6 +13,7 @@ ghost use Rattle.semver_req.specs.ResolveSteps.{OneWalkFindsTheBest};
 ghost use Rattle.semver_req.specs.RetainedSet.{RetainedSetsMeanTheirTrees};
 ghost use Rattle.semver_req.specs.Outcome.{TextsHaveOneOutcome};
 ghost use Rattle.semver_req.specs.TextRejection.{TextsAreRejectedForOneReason};
+ghost use Rattle.semver_req.specs.InvalidPieces.{TextsHaveOneListOfErrors};
 ghost use Rattle.semver_req.specs.Pieces.{NormalPiecesAreNpms};
 ghost use Rattle.semver_req.specs.Parsers.{ReadRequirementsAreAnswers};
 ghost use Rattle.semver_req.specs.Sameness.{inner_reported};
@@ -52,6 +53,12 @@ pub fn texts_have_one_outcome()
 /// A grammar rejects a text for one reason: no text has two failures other than out of memory.
 pub fn texts_are_rejected_for_one_reason()
     ensures { TextsAreRejectedForOneReason }
+{}
+
+/// A text has one list of errors in each grammar: of its invalid alternatives, where each starts, ends and is wrong, why it is
+/// rejected, and what is expected there.
+pub fn texts_have_one_list_of_errors()
+    ensures { TextsHaveOneListOfErrors }
 {}
 
 /// A requirement that means an outcome of a text, and keeps the text that was parsed, is a result of the text's parser: all

@@ -21,7 +21,7 @@ loop-next-init c =
       items = comparator_of c.in-Some.first.operator front.partial ∷ [];
       so_far = so_far_one (listing c.args.flavour) front.longest;
       none = search rules;
-      before = first_before c.args.flavour c.args.piece.now (comparator_of c.in-Some.first.operator front.partial) front.longest;
+      reaches = first_before c.args.flavour c.args.piece.now (comparator_of c.in-Some.first.operator front.partial) front.longest (sym (c.in_ok-overflows.ensures.value front.partial front.seen) ∙ c.if-branch.false);
     }
 
 pub loop-next-preserved : goal.loop-next-preserved
@@ -29,12 +29,13 @@ loop-next-preserved c =
     let i = c.loop-next.invariant in
     let front = rw c.in-Some-2.is at c.in_ok-written.ensures in
     let next = comparator_of c.in-Some-2.written.operator front.partial in
+    let says = c.in_ok-overflows-2.ensures.value front.partial front.seen in
     record {
       is_text = search rules;
       items = i.items ++ next ∷ [];
       so_far = so_far_more (listing c.args.flavour) i.so_far c.in-Some-after_separator.ensures front.longest;
-      none = one_more_none i.items next i.none (c.in_ok-overflows-2.ensures.value front.partial front.seen) c.if-branch-2.false;
-      before = next_before c.args.flavour c.args.piece.now i.items i.before c.in-Some-after_separator.ensures next front.longest;
+      none = one_more_none i.items next i.none says c.if-branch-2.false;
+      reaches = next_before c.args.flavour c.args.piece.now i.reaches c.in-Some-after_separator.ensures next front.longest (sym says ∙ c.if-branch-2.false);
     }
 
 pub loop-next-smaller : goal.loop-next-smaller
@@ -51,7 +52,7 @@ pub returns-then-branch-2-clause-place : goal.returns-then-branch-2-clause-place
 returns-then-branch-2-clause-place c =
     let i = c.loop-next.invariant in
     let front = rw c.in-Some-2.is at c.in_ok-written.ensures in
-    next_overflows c.args.flavour c.args.piece.now i.items i.before c.in-Some-after_separator.ensures _ refl i.none front.longest (sym (c.in_ok-overflows-2.ensures.value front.partial front.seen) ∙ c.if-branch-2.true)
+    next_overflows c.args.flavour c.args.piece.now i.reaches c.in-Some-after_separator.ensures _ refl front.longest (sym (c.in_ok-overflows-2.ensures.value front.partial front.seen) ∙ c.if-branch-2.true)
 
 pub returns-clause-place : goal.returns-clause-place
 returns-clause-place c =

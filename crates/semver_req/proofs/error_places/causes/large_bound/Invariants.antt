@@ -7,7 +7,7 @@ use Rattle.semver_base.specs.ListLaws.{SoFar}
 use Rattle.semver_req.specs.Causes.{overflows}
 use Rattle.semver_req.specs.Comparators.{IsComparator}
 use Rattle.semver_req.specs.Pieces.{IsSeparator}
-use Rattle.semver_req.proofs.LargeBounds.{AreBefore}
+use Rattle.semver_req.proofs.LargeBounds.{Reaches}
 use Rattle.semver_req.proofs.error_places.causes.large_bound.Given as goal
 
 abbrev pub invariant-loop-next : goal.invariant-loop-next
@@ -16,7 +16,7 @@ invariant-loop-next l = record {
   items : List Comparator;
   so_far : SoFar (IsComparator l.flavour) (IsSeparator l.flavour) l.piece items l.rest;
   none : list_any overflows items ≡ false;
-  before : AreBefore l.flavour l.piece items l.rest;
+  reaches : Reaches l.flavour l.piece l.rest;
 }
 
 abbrev pub decreases-loop-next : goal.decreases-loop-next
