@@ -56,7 +56,7 @@ pieces_one (first_cut {piece = p} {rest = a} {pieces = vs} c m) (first_cut {piec
 
 -- ---- which pieces are valid
 
-good_one : (f : Flavour) (b : Bool) (piece : List ℕ) (cs ds : List Comparator) → IsGood f b piece cs → IsGood f b piece ds → cs ≡ ds
+pub good_one : (f : Flavour) (b : Bool) (piece : List ℕ) (cs ds : List Comparator) → IsGood f b piece cs → IsGood f b piece ds → cs ≡ ds
 good_one f b piece cs ds (inl h) (inl k) = (piece_one f).one piece cs ds h.0 k.0
 good_one f b piece cs ds (inl h) (inr k) = whitespace_piece f piece cs h.0 k.1 ∙ sym k.2
 good_one f b piece cs ds (inr h) (inl k) = h.2 ∙ sym (whitespace_piece f piece ds k.0 h.1)

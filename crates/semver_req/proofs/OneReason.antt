@@ -10,13 +10,15 @@ use Rattle.semver_base.specs.declared.failure.Rejection.{Rejection}
 use Rattle.semver_req.specs.Comparators.{comparator_numbers, fits}
 use Rattle.semver_req.specs.Outcome.{IsSpecifierRange}
 use Rattle.semver_req.specs.Parsers.{Failure}
-use Rattle.semver_req.specs.PieceReading.{IsCutRejection, IsFirstBad, IsPieceRejection, bad_piece, is_out_of_memory, large_bound, large_number, later_bad, numbers_fit, outside, rejection_failure, this_bad}
+use Rattle.semver_req.specs.PieceReading.{IsCutRejection, IsFirstBad, IsPieceRejection, PiecesAreReadInOneWay, bad_piece, is_out_of_memory, large_bound, large_number, later_bad, numbers_fit, outside, rejection_failure, this_bad}
+use Rattle.semver_req.specs.RetainedSet.{retained_range}
 use Rattle.semver_req.specs.SpecifierRejections as strict
 use Rattle.semver_req.specs.SpecifierRejections.{IsSpecifierRejection}
 use Rattle.semver_req.specs.TextRejection.{TextsAreRejectedForOneReason}
 use Rattle.semver_req.specs.declared.common.values.Flavour.{Flavour}
 use Rattle.semver_req.specs.declared.common.values.Flavour.TheVariants.{Npm, Normal, Specifier}
-use Rattle.semver_req.proofs.OneOutcome.{fits_or_not, pieces_one, some_or_none}
+use Rattle.semver_req.specs.declared.range_set_or_tag.pieces.RangeOrInvalid.TheVariants as read
+use Rattle.semver_req.proofs.OneOutcome.{fits_or_not, good_one, pieces_one, some_or_none}
 use Rattle.semver_req.proofs.PieceReadings.{piece_one}
 
 -- ---- npm's and the normalized grammar
@@ -34,6 +36,13 @@ piece_reason f piece why other (large_number cs h lacks) (large_bound ds k every
 piece_reason f piece why other (large_bound cs h every lacks) (outside n) = absurd (n cs h)
 piece_reason f piece why other (large_bound cs h every lacks) (large_number ds k not) = fit_or_not ds cs (λ xs. list_all numbers_fit xs) ((piece_one f).one piece ds cs k h) not every
 piece_reason f piece why other (large_bound cs h every lacks) (large_bound ds k fit not) = refl
+
+-- what a piece parses to
+pub read_one : PiecesAreReadInOneWay
+read_one f b piece (read.Range r) (read.Range s) (cs, g, e) (ds, i, k) = ap read.Range (e ∙ (ap retained_range (good_one f b piece cs ds g i) ∙ sym k))
+read_one f b piece (read.Range r) (read.Invalid why) (cs, g, e) (bad, h) = absurd (bad cs g)
+read_one f b piece (read.Invalid why) (read.Range r) (bad, h) (cs, g, e) = absurd (bad cs g)
+read_one f b piece (read.Invalid why) (read.Invalid other) h k = ap read.Invalid (piece_reason f piece why other h.1 k.1)
 
 first_reason : (f : Flavour) (b : Bool) (pieces : List (List ℕ)) (why other : Rejection) → IsFirstBad f b pieces why → IsFirstBad f b pieces other → why ≡ other
 first_reason f b pieces why other (this_bad {piece = piece} n h) (this_bad m k) = piece_reason f piece why other h k

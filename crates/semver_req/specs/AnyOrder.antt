@@ -1,6 +1,6 @@
 -- Requirements with the same ranges in any order, which have one lowest version.
 use Rattle.std.specs.Prelude.{◌≡◌, List, [], ◌∷◌, Bool, Option, IsPermutation, map}
-use Rattle.semver_base.specs.LowestVersion.{IsOnlyLowest}
+use Rattle.semver_base.specs.LowestVersion.{IsLowest, IsOnlyLowest}
 use Rattle.semver_base.specs.declared.range.PreRelease.{PreRelease}
 use Rattle.semver_base.specs.declared.version.Version.{Version}
 use Rattle.semver_req.specs.Requirement.{Requirement, all_inners_mean_with}
@@ -41,3 +41,8 @@ AllInAnyOrder flag own others lowest = (same : RangeSetOrTag) (rest : List Requi
     → AreReordered (own ∷ map (λ (req : Requirement). req.inner) others)
     (same ∷ map (λ (req : Requirement). req.inner) rest)
     → IsOnlyLowest (all_inners_mean_with flag same rest) lowest
+
+-- a test has one lowest version
+abbrev pub TestsHaveOneLowestVersion : Type 0
+TestsHaveOneLowestVersion = (test : Version → Bool) (lowest other : Option Version) → IsLowest test lowest → IsLowest test other
+    → lowest ≡ other

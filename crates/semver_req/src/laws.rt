@@ -15,6 +15,8 @@ ghost use Rattle.semver_req.specs.Outcome.{TextsHaveOneOutcome};
 ghost use Rattle.semver_req.specs.TextRejection.{TextsAreRejectedForOneReason};
 ghost use Rattle.semver_req.specs.InvalidPieces.{TextsHaveOneListOfErrors};
 ghost use Rattle.semver_req.specs.Pieces.{NormalPiecesAreNpms};
+ghost use Rattle.semver_req.specs.PieceReading.{PiecesAreReadInOneWay, TextsAreSplitInOneWay};
+ghost use Rattle.semver_req.specs.AnyOrder.{TestsHaveOneLowestVersion};
 ghost use Rattle.semver_req.specs.Parsers.{ReadRequirementsAreAnswers};
 ghost use Rattle.semver_req.specs.Sameness.{inner_reported};
 ghost use Rattle.semver_req.specs.Rereading.{NormalTextsAreEquivalent, NormalTextsHoldNoSeparator, NormalTextsKeepTheirMeaning, OneRereadingStabilizes, RangesAreWrittenAsPieces, ReadRangesAreWritable, StableSetsAreTheirTexts, StarIsAnyVersion, TagsHoldNoSeparator, TagsReadBack};
@@ -23,7 +25,7 @@ use crate::common::values::Flavour;
 use crate::error_places::expected::Kind;
 use crate::range_set_or_tag::RangeSetOrTag;
 use crate::req::VersionReq;
-use semver_base::laws::Same;
+use semver_base::laws::{Same, read_versions_are_readable};
 
 impl Same for Flavour {
     ghost decides = { Prim.search rules };
@@ -60,6 +62,19 @@ pub fn texts_are_rejected_for_one_reason()
 pub fn texts_have_one_list_of_errors()
     ensures { TextsHaveOneListOfErrors }
 {}
+
+/// A text is split at its `||` in one way, and a grammar reads each piece in one way: as one range, or as invalid for one reason.
+pub fn pieces_are_read_in_one_way()
+    ensures split { TextsAreSplitInOneWay }
+    ensures read { PiecesAreReadInOneWay }
+{}
+
+/// A test of versions has one lowest version without a build that is read back from its text, or none.
+pub fn tests_have_one_lowest_version()
+    ensures { TestsHaveOneLowestVersion }
+{
+    read_versions_are_readable();
+}
 
 /// A requirement that means an outcome of a text, and keeps the text that was parsed, is a result of the text's parser: all
 /// that the parser ensures holds of it.
