@@ -1,10 +1,10 @@
 -- Where the version requirement of a package stands in its text.
 use Rattle.std.proofs.Common.{◌≡◌, ◌+◌, ◌-◌, ◌==◌, ℕ, Bool, true, false, List, [], ◌∷◌, ◌++◌, length, Option, None, Some, refl, sym, subst, ap, ◌∙◌, arith, inl, inr, append_assoc, length-append, if◌then◌else◌}
-use Rattle.deno_semver.specs.PackagePlaces.{IsRequirementAt, LacksRequirement}
+use Rattle.deno_semver.specs.PackagePlaces.{IsRequirementAt, LacksRequirement, RequirementsStandAtOnePlace}
 use Rattle.deno_semver.specs.PackageSteps.{IsCut, IsUncut}
 use Rattle.deno_semver.specs.PackageText.{IsAfterScope, IsNamePart, IsPackageText, PackageParts, without_slash}
 use Rattle.deno_semver.specs.declared.package.errors.PackageReqPartsParseError.{PackageReqPartsParseError}
-use Rattle.deno_semver.proofs.PackageText.{no_alone, no_part, package_one}
+use Rattle.deno_semver.proofs.PackageText.{no_alone, no_part, package_one, tail_one}
 
 before_body : (text : List ℕ) → (front : List ℕ) × (text ≡ front ++ without_slash text)
 before_body [] = ([], refl)
@@ -54,3 +54,13 @@ no_requirement tail path {found = found} cut is parts h = ap (λ (p : PackagePar
 pub no_parts : {text : List ℕ} (e : PackageReqPartsParseError) → IsUncut text e → LacksRequirement text
 no_parts e (inl lacks) parts h = absurd (no_part parts h lacks.1)
 no_parts e (inr alone) parts h = absurd (no_alone parts h alone.1)
+
+pub one_place : RequirementsStandAtOnePlace
+one_place text start other requirement also h k =
+    let parts = package_one h.parts k.parts h.is_cut k.is_cut in
+    let some : Some requirement ≡ Some also = sym h.version_is ∙ (ap (λ (p : PackageParts). p.version) parts ∙ k.version_is) in
+    let same : requirement ≡ also = cc some in
+    let tails = tail_one h.parts k.parts h.is_cut k.is_cut in
+    let sizes : length text ≡ length h.before + (length requirement + length h.is_cut.tail) = omega (arith, ap length h.text_is, length-append h.before (requirement ++ h.is_cut.tail), length-append requirement h.is_cut.tail) in
+    let others : length text ≡ length k.before + (length also + length k.is_cut.tail) = omega (arith, ap length k.text_is, length-append k.before (also ++ k.is_cut.tail), length-append also k.is_cut.tail) in
+    (omega (arith, h.start_is, k.start_is, sizes, others, ap length same, ap length tails), same)

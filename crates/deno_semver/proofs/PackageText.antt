@@ -93,10 +93,19 @@ parts_of s n v p = record { scope = s; name = n; version = v; path = p }
 parts_same : {s t : Option (List ℕ)} {n m : List ℕ} {v w : Option (List ℕ)} {p q : List ℕ} → s ≡ t → n ≡ m → v ≡ w → p ≡ q → parts_of s n v p ≡ parts_of t m w q
 parts_same a b c d = rw (a, b, c, d) refl
 
+-- the part with the name, and what follows it
+lasts_one : {text : List ℕ} (x y : PackageParts) (h : IsPackageText text x) (k : IsPackageText text y) → (h.last ≡ k.last) × (h.tail ≡ k.tail)
+lasts_one {text} x y h k =
+    let rests = after_one x.scope y.scope (without_slash text) h.rest k.rest h.scope k.scope in
+    run_one (is_not 47) h.last h.tail k.last k.tail (sym h.rest_is ∙ (rests.1 ∙ k.rest_is)) h.last_is (stops_tail h.tail x.path h.path) k.last_is (stops_tail k.tail y.path k.path)
+
+pub tail_one : {text : List ℕ} (x y : PackageParts) (h : IsPackageText text x) (k : IsPackageText text y) → h.tail ≡ k.tail
+tail_one x y h k = (lasts_one x y h k).1
+
 pub package_one : {text : List ℕ} (x y : PackageParts) → IsPackageText text x → IsPackageText text y → x ≡ y
 package_one {text} x y h k =
     let rests = after_one x.scope y.scope (without_slash text) h.rest k.rest h.scope k.scope in
-    let lasts = run_one (is_not 47) h.last h.tail k.last k.tail (sym h.rest_is ∙ (rests.1 ∙ k.rest_is)) h.last_is (stops_tail h.tail x.path h.path) k.last_is (stops_tail k.tail y.path k.path) in
+    let lasts = lasts_one x y h k in
     let named = named_one h.last x.name y.name x.version y.version h.named (rw lasts.0 k.named) in
     let paths = path_one h.tail x.path y.path h.path (rw lasts.1 k.path) in
     parts_same rests.0 named.0 named.1 paths

@@ -14,3 +14,8 @@ pub record IsRequirementAt (text : List ℕ) (start : ℕ) (requirement : List �
 -- the text has no parts, or none of them is a version requirement
 abbrev pub LacksRequirement : List ℕ → Type 0
 LacksRequirement text = (parts : PackageParts) → IsPackageText text parts → parts.version ≡ None
+
+-- a text has one version requirement, at one place
+abbrev pub RequirementsStandAtOnePlace : Type 0
+RequirementsStandAtOnePlace = (text : List ℕ) (start other : ℕ) (requirement also : List ℕ) → IsRequirementAt text start requirement
+    → IsRequirementAt text other also → (start ≡ other) × (requirement ≡ also)

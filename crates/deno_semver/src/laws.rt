@@ -10,6 +10,7 @@ ghost use Rattle.std.proofs.Common.{rules};
 ghost use Rattle.deno_semver.specs.Equal.{AreEqualDependencies, AreEqualReferences};
 ghost use Rattle.deno_semver.specs.Json.{IsJsonOfRange, IsJsonOfSet, IsJsonOfVersionReq, IsStringOf, IsTextOfDependency, IsTextOfNv, IsTextOfReference, IsTextOfReq, IsTextOfVersion};
 ghost use Rattle.deno_semver.specs.OneOutcome.{DependenciesHaveOneOutcome, NamesWithVersionsHaveOneOutcome, PackageTextsHaveOneCut, PackageTextsHaveOneOutcome, ReferencesHaveOneOutcome, ParsesToOne, VersionReferencesHaveOneOutcome};
+ghost use Rattle.deno_semver.specs.PackagePlaces.{RequirementsStandAtOnePlace};
 ghost use Rattle.deno_semver.specs.ReferenceOutcome.{unboxed};
 ghost use Rattle.deno_semver.specs.Sameness.{nv_reference_reported, nv_reported};
 ghost use Rattle.deno_semver.specs.Stored.{StoredRequirementsAreReadAgain};
@@ -112,6 +113,11 @@ pub fn same_reference_errors(
 /// A text splits as the text of a package in at most one way.
 pub fn package_texts_have_one_cut()
     ensures { PackageTextsHaveOneCut }
+{}
+
+/// The version requirement in the text of a package stands at one place.
+pub fn requirements_stand_at_one_place()
+    ensures { RequirementsStandAtOnePlace }
 {}
 
 /// A text has at most one outcome as the text of a package, with each of the three grammars of versions: never two package
