@@ -5,6 +5,7 @@ pub mod Givens
 pub mod LineMatches
 pub mod JsonTexts
 pub mod Lowest
+pub mod OneExplanation
 pub mod ReadArguments
 pub mod Sorted
 pub mod TextLists

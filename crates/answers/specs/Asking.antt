@@ -38,10 +38,6 @@ pub record IsOutcomeOf {X P : Type 0} (memory : P) (Asked : Result X P → Type 
 abbrev pub IsAnswer : {E X : Type 0} → (Result X Fault → Type 0) → (E → X) → Result E Problem → Type 0
 IsAnswer Asked value result = IsOutcomeOf OutOfMemory Asked (outcome_of value result)
 
--- the outcome is one of the question, or out of memory
-abbrev pub IsOneAnswer : {E X : Type 0} → (Result X Fault → Type 0) → (E → X) → Result E Problem → Type 0
-IsOneAnswer Asked value result = (outcome_of value result ≡ Err OutOfMemory) ⊎ Asked (outcome_of value result)
-
 -- the result is this value
 abbrev pub Is : {X P : Type 0} → X → Result X P → Type 0
 Is x outcome = outcome ≡ Ok x

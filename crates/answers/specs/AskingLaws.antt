@@ -81,3 +81,13 @@ answered memory x y e = record { is = inr (ap as_value e); only = λ o a. inr (a
 -- out of memory is never a wrong result
 pub out_of_memory : {X P : Type 0} (memory : P) (Asked : Result X P → Type 0) → IsOutcomeOf memory Asked (Err memory)
 out_of_memory memory Asked = record { is = inl refl; only = λ o a. inl refl }
+
+-- a question with one outcome
+pub one_answer : {X P : Type 0} (memory : P) (Asked : Result X P → Type 0)
+    → ((o u : Result X P) → Asked o → Asked u → o ≡ u) → (outcome : Result X P) → (outcome ≡ Err memory) ⊎ Asked outcome
+    → IsOutcomeOf memory Asked outcome
+one_answer {X} {P} memory Asked one outcome h = record { is = h; only = λ o a. only h o a }
+  where
+    only : (outcome ≡ Err memory) ⊎ Asked outcome → (o : Result X P) → Asked o → (outcome ≡ Err memory) ⊎ (outcome ≡ o)
+    only (inl none) o a = inl none
+    only (inr b) o a = inr (one outcome o b a)

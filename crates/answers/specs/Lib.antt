@@ -10,4 +10,5 @@ pub mod Errors
 pub mod ExplainedJson
 pub mod Object
 pub mod AskingLaws
+pub mod ErrorLaws
 pub mod ReadingLaws

@@ -1,6 +1,6 @@
 //! What is wrong with a range, and where, as JSON.
 
-ghost use Rattle.std.specs.Prelude.{◌≡◌, IfOk, string_bytes};
+ghost use Rattle.std.specs.Prelude.{◌≡◌, IfOk, List, string_bytes, ℕ};
 ghost use Rattle.serde_json.specs.View.{view};
 ghost use Rattle.serde_json.specs.Written.{compact_text};
 ghost use Rattle.semver_req.specs.InvalidPieces.{AreInvalidPieces};
@@ -13,6 +13,7 @@ use semver_req::error_places::causes::Cause;
 use semver_req::error_places::expected::Kind;
 use semver_req::error_places::pieces::{InvalidPiece, invalid_pieces};
 use semver_req::error_places::version_error_place;
+use semver_req::laws::texts_have_one_list_of_errors;
 use serde_json::Value;
 use std::alloc::{AllocError, Global};
 
@@ -97,8 +98,11 @@ pub fn errors_of_range(
     flavour: Flavour,
     range_text: &str,
 ) -> Result<String, AllocError>
-    ensures { IfOk result (λ text. IsErrorsText flavour range_text.now (string_bytes text)) }
+    ensures is { IfOk result (λ text. IsErrorsText flavour range_text.now (string_bytes text)) }
+    ensures only { (other : List ℕ) → IsErrorsText flavour range_text.now other
+        → IfOk result (λ text. string_bytes text ≡ other) }
 {
+    texts_have_one_list_of_errors();
     let errors = errors(alloc, flavour, range_text)?;
     errors_text(alloc, errors.as_slice())
 }

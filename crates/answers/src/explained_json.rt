@@ -4,7 +4,7 @@ ghost use Rattle.std.specs.Prelude.{◌≡◌, ◌++◌, IfOk, OnOk, map, string
 ghost use Rattle.std.specs.Option.{option_copied};
 ghost use Rattle.serde_json.specs.Data.{string};
 ghost use Rattle.serde_json.specs.View.{view};
-ghost use Rattle.answers.specs.Asking.{IsOneAnswer};
+ghost use Rattle.answers.specs.Asking.{IsAnswer};
 ghost use Rattle.answers.specs.ExplainedJson.{Explains, error_for, errors_behind, matches_json, numbers_text, option_list, pre_release_of, pre_releases, ranges_explained};
 ghost use Rattle.answers.specs.Filtering.{list_answer};
 
@@ -17,6 +17,10 @@ use semver_base::range::{PreRelease, RangeBound};
 use semver_base::version::Version;
 use semver_req::common::values::Flavour;
 use semver_req::error_places::pieces::InvalidPiece;
+use semver_req::laws::{
+    pieces_are_read_in_one_way, tests_have_one_lowest_version, texts_are_rejected_for_one_reason,
+    texts_have_one_list_of_errors, texts_have_one_outcome,
+};
 use serde_json::Value;
 use std::alloc::{AllocError, Global};
 
@@ -158,9 +162,14 @@ pub fn explain_as_json(
     pre_release: PreRelease,
     text: &str,
 ) -> Result<Answer<String>, Problem>
-    ensures { IsOneAnswer (Explains pre_release flavour text.now)
+    ensures { IsAnswer (Explains pre_release flavour text.now)
         (λ answer. list_answer (λ text. string_bytes text) answer) result }
 {
+    texts_have_one_outcome();
+    texts_are_rejected_for_one_reason();
+    texts_have_one_list_of_errors();
+    pieces_are_read_in_one_way();
+    tests_have_one_lowest_version();
     match explain(alloc, flavour, pre_release, text)? {
         Explanation::Tag(tag) => Ok(Answer::Tag(tag)),
         Explanation::Ranges { pieces, normal } => {

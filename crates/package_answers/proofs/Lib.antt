@@ -3,3 +3,4 @@ pub mod PackagePlaces
 pub mod ReferencePlaces
 pub mod Reasons
 pub mod OneFault
+pub mod OneErrors

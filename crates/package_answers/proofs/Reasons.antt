@@ -58,7 +58,7 @@ module _ (one_reason : TextsAreRejectedForOneReason) where
   package_reason f (HasPath path) p q h k = h.2 ∙ ap parts_failure (h.1 ∙ sym k.1) ∙ sym k.2
   package_reason f NoAt p q h k = h.2 ∙ ap parts_failure (h.1 ∙ sym k.1) ∙ sym k.2
 
-  reported_reason : (registry : PackageKind) (text : List ℕ) (fault : ReferenceFault) (e d : PackageReqReferenceParseError) → ReportsReference registry text fault e → ReportsReference registry text fault d
+  pub reported_reason : (registry : PackageKind) (text : List ℕ) (fault : ReferenceFault) (e d : PackageReqReferenceParseError) → ReportsReference registry text fault e → ReportsReference registry text fault d
       → reference_failure (unboxed e) ≡ reference_failure (unboxed d)
   reported_reason registry text OtherScheme e d r s = ap reference_failure (r ∙ sym s)
   reported_reason registry text (BadText fault) e d r s =

@@ -13,13 +13,14 @@ use crate::errors::{PackageErrors, Part, PartError, errors_text};
 use answers::asking::{Kind, Problem};
 use answers::object::{Object, json_text};
 use deno_semver::ParseFailure;
+use deno_semver::laws::{package_texts_have_one_outcome, requirements_stand_at_one_place};
 use deno_semver::package::{
     PackageReq, PackageReqParseError, PackageReqPartsParseError, version_req_text,
 };
 use semver_base::lexical::after;
 use semver_req::common::values::Flavour;
 use semver_req::error_places::pieces::invalid_pieces_behind;
-use semver_req::laws::texts_are_rejected_for_one_reason;
+use semver_req::laws::{texts_are_rejected_for_one_reason, texts_have_one_list_of_errors};
 use serde_json::Value;
 use std::alloc::{AllocError, Global};
 
@@ -216,8 +217,14 @@ pub fn package_errors_text(
     flavour: Flavour,
     text: &str,
 ) -> Result<String, AllocError>
-    ensures { IfOk result (λ json. IsPackageErrorsText flavour text.now (string_bytes json)) }
+    ensures is { IfOk result (λ json. IsPackageErrorsText flavour text.now (string_bytes json)) }
+    ensures only { (other : List ℕ) → IsPackageErrorsText flavour text.now other
+        → IfOk result (λ json. string_bytes json ≡ other) }
 {
+    texts_are_rejected_for_one_reason();
+    texts_have_one_list_of_errors();
+    requirements_stand_at_one_place();
+    package_texts_have_one_outcome();
     let errors = package_errors(alloc, flavour, text)?;
     errors_text(alloc, text.len(), &errors)
 }

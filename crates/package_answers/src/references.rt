@@ -1,6 +1,6 @@
 //! The text of a reference to a package, such as `jsr:@scope/name@1/mod.ts`.
 
-ghost use Rattle.std.specs.Prelude.{◌≡◌, ◌⊎◌, IfErr, IfOk, None, Ok, Result, string_bytes};
+ghost use Rattle.std.specs.Prelude.{◌≡◌, ◌⊎◌, IfErr, IfOk, List, None, Ok, Result, string_bytes, ℕ};
 ghost use Rattle.std.specs.Option.{option_copied};
 ghost use Rattle.serde_json.specs.View.{view};
 ghost use Rattle.deno_semver.specs.ReferenceOutcome.{IsReferenceAnswer, IsReferenceOutcome, IsReferenceRejection, ReferenceFault, unboxed};
@@ -16,10 +16,11 @@ use answers::asking::{Kind, Problem};
 use answers::object::{Object, json_text, text_json};
 use deno_semver::ParseFailure;
 use deno_semver::jsr::{JsrPackageReqReference, normalized_export_name};
+use deno_semver::laws::{references_have_one_outcome, requirements_stand_at_one_place};
 use deno_semver::npm::NpmPackageReqReference;
 use deno_semver::package::{PackageKind, PackageReqReference, PackageReqReferenceParseError};
 use semver_req::common::values::Flavour;
-use semver_req::laws::texts_are_rejected_for_one_reason;
+use semver_req::laws::{texts_are_rejected_for_one_reason, texts_have_one_list_of_errors};
 use serde_json::Value;
 use std::alloc::{AllocError, Global};
 
@@ -211,8 +212,14 @@ pub fn reference_errors(alloc: Global, text: &str) -> Result<PackageErrors, Allo
 
 /// Returns those errors as the text of a JSON array.
 pub fn reference_errors_text(alloc: Global, text: &str) -> Result<String, AllocError>
-    ensures { IfOk result (λ json. IsReferenceErrorsText text.now (string_bytes json)) }
+    ensures is { IfOk result (λ json. IsReferenceErrorsText text.now (string_bytes json)) }
+    ensures only { (other : List ℕ) → IsReferenceErrorsText text.now other
+        → IfOk result (λ json. string_bytes json ≡ other) }
 {
+    texts_are_rejected_for_one_reason();
+    texts_have_one_list_of_errors();
+    requirements_stand_at_one_place();
+    references_have_one_outcome();
     let errors = reference_errors(alloc, text)?;
     errors_text(alloc, text.len(), &errors)
 }

@@ -5,11 +5,11 @@ use Rattle.std.specs.declared.alloc.AllocError.{AllocError}
 use Rattle.semver_req.specs.declared.common.values.Flavour.{Flavour}
 use Rattle.semver_req.specs.declared.common.values.Flavour.TheVariants.{Npm, Normal, Specifier}
 use Rattle.semver_req.specs.Viable.{IsErrorPlace, IsVersionText}
-use Rattle.answers.specs.AskingLaws.{answered, as_value, by_fault, by_value, fault_as_fault, fault_no_value, out_of_memory, same_fault, same_value, value_no_fault}
+use Rattle.answers.specs.AskingLaws.{answered, by_fault, by_value, fault_as_fault, fault_no_value, out_of_memory, same_fault, same_value, value_no_fault}
 use Rattle.answers.specs.Asking.{Fault, Given, Is, IsAnswer, IsOutcomeOf, OutOfMemory, fault_of, invalid, outcome_of, valid}
 use Rattle.answers.specs.declared.asking.Problem.{Problem as Unanswered}
 use Rattle.answers.specs.declared.asking.Problem.TheVariants as unanswered
-use Rattle.semver_c.specs.Arguments.{CallFault, Called, IsArgument, IsCallAnswer, IsGrammar, IsOneCallAnswer, IsOnly, IsSubject, IsUtf8Text, NoGrammar, NotUtf8, call_fault, called, called_outcome, grammar, grammar_number, memory, no_grammar, no_subject, no_text, call_outcome, subject, subject_number, text}
+use Rattle.semver_c.specs.Arguments.{CallFault, Called, IsArgument, IsCallAnswer, IsGrammar, IsOnly, IsSubject, IsUtf8Text, NoGrammar, NotUtf8, call_fault, called, called_outcome, grammar, grammar_number, memory, no_grammar, no_subject, no_text, call_outcome, subject, subject_number, text}
 use Rattle.semver_c.specs.declared.arguments.Problem.{Problem}
 use Rattle.semver_c.specs.declared.arguments.Problem.TheVariants as problem
 use Rattle.semver_c.specs.declared.arguments.Subject.{Subject}
@@ -176,55 +176,20 @@ module _ {E Y : Type 0} (Asked : Result Y Fault → Type 0) (value : E → Y) (r
       let p = err_from_is_err_and r made in
       by_answer (Err OutOfMemory) (out_of_memory OutOfMemory Asked) (ap (call_outcome value) p.1 ∙ ap (λ (q : Problem). Err (call_fault q)) (gives e p.0 p.2))
 
--- ---- questions that may have several outcomes
-
-module _ {A E Y : Type 0} (Argument : Result A CallFault → Type 0) (Asked : A → Result Y CallFault → Type 0) (value : E → Y) (r : Result E Problem) where
-  pub one_without : (p : Problem) → IsOnly Argument (Err (call_fault p)) → IsErrAnd r (λ e. e ≡ p) → IsOneCallAnswer (Given Argument Asked) value r
-  one_without p h is = inr (subst (Given Argument Asked) (sym (exit value r p is)) (invalid h.0))
-
-  pub one_within : (x : A) → IsOnly Argument (Ok x) → IsOneCallAnswer (Asked x) value r → IsOneCallAnswer (Given Argument Asked) value r
-  one_within x h (inl none) = inl none
-  one_within x h (inr a) = inr (valid h.0 a)
-
-module _ {E Y : Type 0} (Asked : Result Y Fault → Type 0) (value : E → Y) (r : Result E Problem) where
-  pub one_asked : (P : Unanswered → Problem → Type 0) (found : Result E Unanswered) → (outcome_of value found ≡ Err OutOfMemory) ⊎ Asked (outcome_of value found)
-      → MatchResult found (λ v. r ≡ Ok v) (λ e. IsErrAnd r (P e)) → ((e : Unanswered) (p : Problem) → P e p → p ≡ problem.Unanswered e) → IsOneCallAnswer (Called Asked) value r
-  one_asked P found h made gives = answered_by h
-    where
-      is : (found : Result E Unanswered) → MatchResult found (λ v. r ≡ Ok v) (λ e. IsErrAnd r (P e)) → call_outcome value r ≡ called_outcome (outcome_of value found)
-      is (Ok v) made = ap (call_outcome value) made
-      is (Err why) made =
-          let p = err_from_is_err_and r made in ap (call_outcome value) p.1 ∙ ap (λ (q : Problem). Err (call_fault q)) (gives why p.0 p.2)
-
-      answered_by : (outcome_of value found ≡ Err OutOfMemory) ⊎ Asked (outcome_of value found) → IsOneCallAnswer (Called Asked) value r
-      answered_by (inl none) = inl (is found made ∙ ap called_outcome none)
-      answered_by (inr a) = inr (subst (Called Asked) (sym (is found made)) (called a))
-
-  pub one_asked_for : (P : AllocError → Problem → Type 0) (found : Result E AllocError) → IfOk found (λ v. Asked (Ok (value v)))
-      → MatchResult found (λ v. r ≡ Ok v) (λ e. IsErrAnd r (P e)) → ((e : AllocError) (p : Problem) → P e p → p ≡ problem.Unanswered unanswered.OutOfMemory) → IsOneCallAnswer (Called Asked) value r
-  one_asked_for P (Ok v) h made gives = inr (subst (Called Asked) (ap (λ (x : Result E Problem). call_outcome value x) (sym made)) (called h))
-  one_asked_for P (Err e) h made gives = let p = err_from_is_err_and r made in inl (ap (call_outcome value) p.1 ∙ ap (λ (q : Problem). Err (call_fault q)) (gives e p.0 p.2))
-
--- ---- faults
+-- ---- what is found of a text
 
 -- what is found of a text, which has no other
-pub only_found : {T E F : Type 0} (Found : T → Type 0) (value : E → T) (found : Result E F) → IfOk found (λ v. Found (value v)) → IfOk found (λ v. (t : T) → Found t → value v ≡ t)
+pub only_found : {T E F : Type 0} (Found : T → Type 0) (value : E → T) (found : Result E F) → IfOk found (λ v. Found (value v)) → ((t : T) → Found t → IfOk found (λ v. value v ≡ t))
     → IfOk found (λ v. IsOutcomeOf OutOfMemory (λ (outcome : Result T Fault). (t : T) × Found t × (outcome ≡ Ok t)) (Ok (value v)))
 only_found Found value (Ok v) h one = record { is = inr (value v, h, refl); only = λ o a. inr (ap Ok (one a.0 a.1) ∙ sym a.2) }
 only_found Found value (Err e) h one = tt
 
 -- a text stops being a version at one place
-pub one_place : (bytes : List ℕ) {F : Type 0} (found : Result ℕ F) → IfOk found (IsErrorPlace IsVersionText bytes) → IfOk found (λ m. (n : ℕ) → IsErrorPlace IsVersionText bytes n → m ≡ n)
-one_place bytes (Ok m) h = λ n k. omega (arith, h.longest n k.boundary k.viable, k.longest m h.boundary h.viable)
-one_place bytes (Err e) h = tt
+pub one_place : (bytes : List ℕ) {F : Type 0} (found : Result ℕ F) → IfOk found (IsErrorPlace IsVersionText bytes) → (n : ℕ) → IsErrorPlace IsVersionText bytes n → IfOk found (λ m. m ≡ n)
+one_place bytes (Ok m) h n k = omega (arith, h.longest n k.boundary k.viable, k.longest m h.boundary h.viable)
+one_place bytes (Err e) h n k = tt
 
 -- the value that is asked for
 pub answered_for : {T E F : Type 0} (t : T) (value : E → T) (found : Result E F) → IfOk found (λ v. value v ≡ t) → IfOk found (λ v. IsOutcomeOf OutOfMemory (Is t) (Ok (value v)))
 answered_for t value (Ok v) h = answered OutOfMemory (value v) t h
 answered_for t value (Err e) h = tt
-
--- one of those that are found
-pub one_found : {T E F : Type 0} (Found : T → Type 0) (value : E → T) (found : Result E F) → IfOk found (λ v. Found (value v))
-    → IfOk found (λ v. (t : T) × Found t × (as_value {P = Fault} (value v) ≡ as_value t))
-one_found Found value (Ok v) h = (value v, h, refl)
-one_found Found value (Err e) h = tt

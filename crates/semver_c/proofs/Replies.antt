@@ -12,8 +12,8 @@ use Rattle.answers.specs.Sorting.{AreOnlySortedPlaces, AreSortedPlaces, SortedLi
 use Rattle.answers.specs.declared.asking.Problem.TheVariants as unanswered
 use Rattle.answers.specs.declared.questions.End.{End}
 use Rattle.answers.specs.declared.sorting.Order.TheVariants.{Ascending}
-use Rattle.semver_c.specs.Codes.{IsCode, IsOneReply, IsPlaceReply, IsReply, IsReported, Reports, always_yes, code_of, no_memory, no_place, or_message, place_after}
-use Rattle.semver_c.specs.Arguments.{CallFault, IsCallAnswer, IsOneCallAnswer, memory, call_outcome, problem_place}
+use Rattle.semver_c.specs.Codes.{IsCode, IsPlaceReply, IsReply, IsReported, Reports, always_yes, code_of, no_memory, no_place, or_message, place_after}
+use Rattle.semver_c.specs.Arguments.{CallFault, IsCallAnswer, memory, call_outcome, problem_place}
 use Rattle.semver_c.specs.Held.{IsHeldReport, IsListBest, is_held, out_of_memory}
 use Rattle.semver_c.specs.declared.handles.Held.{Held}
 use Rattle.semver_c.specs.declared.arguments.Problem.{Problem}
@@ -91,17 +91,6 @@ pub placed_text : {value : Held} {text : List ℕ} {old new : Option Held} {befo
     → {X : Type 0} (shown : X → List ℕ) (x : X) → text ≡ shown x → IsReported always_yes (or_message shown) (Ok x) before after needed code
 placed_text {text = text} (is_held n t c) shown x e = record { items = text; placed_is = t; reports = inr (c, e) }
 placed_text (out_of_memory message n t c) shown x e = record { items = message; placed_is = t; reports = inl c }
-
--- ---- questions that may have several outcomes
-
-pub one_replied : {E X I : Type 0} (Asked : Result X CallFault → Type 0) (value : E → X) (answer : Result E Problem) → IsOneCallAnswer Asked value answer → (coded : X → Code) (shown : Result X CallFault → List I) (old new : List I) (needed : ℕ) (code : ℤ)
-    → IsReported coded shown (call_outcome value answer) old new needed code → IsOneReply Asked coded shown old new needed code
-one_replied {X = X} {I = I} Asked value answer h coded shown old new needed code t = record { items = t.items; placed_is = t.placed_is; is = is h t.reports }
-  where
-    is : IsOneCallAnswer Asked value answer → Reports coded shown (call_outcome value answer) code t.items → (code ≡ no_memory) ⊎ ((o : Result X CallFault) × Asked o × Reports coded shown o code t.items)
-    is (inl none) (inl short) = inl short
-    is (inl none) (inr reported) = inl (reported.0 ∙ ap (code_of coded) none)
-    is (inr a) reported = inr (call_outcome value answer, a, reported)
 
 -- ---- a list that is held
 

@@ -50,10 +50,6 @@ IsArgument Argument value result = IsOnly Argument (call_outcome value result)
 abbrev pub IsCallOutcome : {E X : Type 0} → Result X CallFault → (E → X) → Result E Problem → Type 0
 IsCallOutcome outcome value result = (call_outcome value result ≡ Err memory) ⊎ (call_outcome value result ≡ outcome)
 
--- the result is an outcome of the question, or out of memory
-abbrev pub IsOneCallAnswer : {E X : Type 0} → (Result X CallFault → Type 0) → (E → X) → Result E Problem → Type 0
-IsOneCallAnswer Asked value result = (call_outcome value result ≡ Err memory) ⊎ Asked (call_outcome value result)
-
 -- the outcome of a question about texts as that of a call
 abbrev pub called_outcome : {X : Type 0} → Result X Fault → Result X CallFault
 called_outcome (Ok x) = Ok x

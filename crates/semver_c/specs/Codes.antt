@@ -203,14 +203,6 @@ pub record IsReply {X I : Type 0} (Asked : Result X CallFault → Type 0) (coded
       ⊎ ((outcome : Result X CallFault) × Asked outcome × Reports coded shown outcome code items)
   pub only : (outcome : Result X CallFault) → Asked outcome → Reports coded shown outcome code items
 
--- items are placed that report one outcome of the question, together with the code
-pub record IsOneReply {X I : Type 0} (Asked : Result X CallFault → Type 0) (coded : X → Code) (shown : Result X CallFault → List I)
-    (old new : List I) (needed : ℕ) (code : ℤ) : Type 0 where
-  pub items : List I
-  pub placed_is : IsPlaced items old new needed
-  pub is : (code ≡ no_memory)
-      ⊎ ((outcome : Result X CallFault) × Asked outcome × Reports coded shown outcome code items)
-
 -- for any code but 1 nothing is written, and the length is 0
 abbrev pub IsUntouched : {I : Type 0} → List I → List I → ℕ → ℤ → Type 0
 IsUntouched old new needed code = (code ≡ yes → ⊥) → (new ≡ old) × (needed ≡ 0)

@@ -24,7 +24,7 @@ ghost use Rattle.package_answers.specs.Specifiers.{DependencyParts, VersionRefer
 ghost use Rattle.answers.specs.Reading.{IsVersionAt};
 ghost use Rattle.package_answers.specs.References.{ReferenceParts};
 ghost use Rattle.semver_c.specs.Arguments.{pre_release_by};
-ghost use Rattle.semver_c.specs.Codes.{IsCode, IsOneReply, IsPlaceReply, IsPlaced, IsReply, IsReported, IsUntouched, IsUntouchedWithoutValue, always_yes, as_place, best_code, best_place, bool_code, code_of, filter_code, filter_numbers, found_code, found_text, lowest_code, lowest_text, match_code, no_place, no_text, number_of, or_message, or_nothing, order_code, text_code, text_of, three_numbers, unqualified_code, yes};
+ghost use Rattle.semver_c.specs.Codes.{IsCode, IsPlaceReply, IsPlaced, IsReply, IsReported, IsUntouched, IsUntouchedWithoutValue, always_yes, as_place, best_code, best_place, bool_code, code_of, filter_code, filter_numbers, found_code, found_text, lowest_code, lowest_text, match_code, no_place, no_text, number_of, or_message, or_nothing, order_code, text_code, text_of, three_numbers, unqualified_code, yes};
 ghost use Rattle.semver_c.specs.Held.{IsHeld, IsHeldBest, IsHeldEqual, OfHeld, of_both, of_one, range_in, version_in, versions_in};
 ghost use Rattle.semver_c.specs.Questions.{BestLine, ByOne, ByTwo, CommonBy, CommonOfAll, EquivalentBy, ErrorsBy, ExplainsBy, ExportNameOf, Filters, Fits, LowestBy, MatchesHeld, NumbersOf, OfText, OfTexts, OutsideBy, PackageErrorsBy, RangeBy, ReferenceErrorsOf, SortsOf, TagBy, VersionErrorOf, VersionListOf, WhyBy};
 ghost use Rattle.semver_c.specs.declared.codes.Code.{Code};
@@ -446,7 +446,7 @@ pub extern "C" fn semver_package_errors(
     out: &mut [u8],
     needed: &mut usize,
 ) -> i32
-    ensures { IsOneReply (PackageErrorsBy grammar text.now) always_yes (or_message (λ text. text))
+    ensures { IsReply (PackageErrorsBy grammar text.now) always_yes (or_message (λ text. text))
         out.old out.new needed.new result }
 {
     report_text(package_errors_of(alloc, grammar, text), out, needed)
@@ -460,7 +460,7 @@ pub extern "C" fn semver_reference_errors(
     out: &mut [u8],
     needed: &mut usize,
 ) -> i32
-    ensures { IsOneReply (ReferenceErrorsOf text.now) always_yes (or_message (λ text. text))
+    ensures { IsReply (ReferenceErrorsOf text.now) always_yes (or_message (λ text. text))
         out.old out.new needed.new result }
 {
     report_text(reference_errors_of(alloc, text), out, needed)
@@ -530,7 +530,7 @@ pub extern "C" fn semver_explain(
     out: &mut [u8],
     needed: &mut usize,
 ) -> i32
-    ensures { IsOneReply (ExplainsBy pre_releases grammar range.now) text_code (or_message text_of)
+    ensures { IsReply (ExplainsBy pre_releases grammar range.now) text_code (or_message text_of)
         out.old out.new needed.new result }
 {
     let answer = explanation_of(alloc, grammar, range, pre_releases);
@@ -546,7 +546,7 @@ pub extern "C" fn semver_errors(
     out: &mut [u8],
     needed: &mut usize,
 ) -> i32
-    ensures { IsOneReply (ErrorsBy grammar range.now) always_yes (or_message (λ text. text))
+    ensures { IsReply (ErrorsBy grammar range.now) always_yes (or_message (λ text. text))
         out.old out.new needed.new result }
 {
     report_text(errors_of(alloc, grammar, range), out, needed)

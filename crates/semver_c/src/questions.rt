@@ -15,7 +15,7 @@ ghost use Rattle.package_answers.specs.Names.{NameWithVersionParts};
 ghost use Rattle.package_answers.specs.Specifiers.{DependencyParts, VersionReferenceParts};
 ghost use Rattle.answers.specs.Reading.{IsVersionAt};
 ghost use Rattle.package_answers.specs.References.{ReferenceParts};
-ghost use Rattle.semver_c.specs.Arguments.{IsCallAnswer, IsCallOutcome, IsOneCallAnswer, pre_release_by};
+ghost use Rattle.semver_c.specs.Arguments.{IsCallAnswer, IsCallOutcome, pre_release_by};
 ghost use Rattle.semver_c.specs.Codes.{match_code};
 ghost use Rattle.semver_c.specs.Held.{IsHeldBest, OfHeld, of_both, of_one};
 ghost use Rattle.semver_c.specs.Questions.{BestLine, ByOne, ByTwo, CommonBy, CommonOfAll, EquivalentBy, ErrorsBy, ExplainsBy, ExportNameOf, Filters, Fits, LowestBy, MatchesHeld, NumbersOf, OfText, OfTexts, OutsideBy, PackageErrorsBy, RangeBy, ReferenceErrorsOf, SortsOf, TagBy, VersionErrorOf, VersionListOf, WhyBy};
@@ -54,7 +54,7 @@ pub fn explanation_of(
     range: &[u8],
     pre_releases: u32,
 ) -> Result<Answer<String>, Problem>
-    ensures { IsOneCallAnswer (ExplainsBy pre_releases grammar range.now)
+    ensures { IsCallAnswer (ExplainsBy pre_releases grammar range.now)
         (λ answer. list_answer string_bytes answer) result }
 {
     let given = with_text(grammar, range)?;
@@ -65,7 +65,7 @@ pub fn explanation_of(
 
 /// What is wrong with the range, and where?
 pub fn errors_of(alloc: Global, grammar: u32, range: &[u8]) -> Result<String, Problem>
-    ensures { IsOneCallAnswer (ErrorsBy grammar range.now) string_bytes result }
+    ensures { IsCallAnswer (ErrorsBy grammar range.now) string_bytes result }
 {
     let given = with_text(grammar, range)?;
     errors_of_range(alloc, given.flavour, given.text).map_err(Problem::from)
@@ -73,7 +73,7 @@ pub fn errors_of(alloc: Global, grammar: u32, range: &[u8]) -> Result<String, Pr
 
 /// What is wrong with the package, and where?
 pub fn package_errors_of(alloc: Global, grammar: u32, bytes: &[u8]) -> Result<String, Problem>
-    ensures { IsOneCallAnswer (PackageErrorsBy grammar bytes.now)
+    ensures { IsCallAnswer (PackageErrorsBy grammar bytes.now)
         string_bytes result }
 {
     let given = with_text(grammar, bytes)?;
@@ -82,7 +82,7 @@ pub fn package_errors_of(alloc: Global, grammar: u32, bytes: &[u8]) -> Result<St
 
 /// What is wrong with the reference, and where?
 pub fn reference_errors_of(alloc: Global, reference: &[u8]) -> Result<String, Problem>
-    ensures { IsOneCallAnswer (ReferenceErrorsOf reference.now) string_bytes result }
+    ensures { IsCallAnswer (ReferenceErrorsOf reference.now) string_bytes result }
 {
     let text = text(reference)?;
     reference_errors_text(alloc, text).map_err(Problem::from)

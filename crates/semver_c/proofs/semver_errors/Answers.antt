@@ -1,9 +1,9 @@
 use Rattle.std.proofs.Common.{SFits, rules, w32}
 use Rattle.std.proofs.lemmas.Int.{to_z-of_z}
-use Rattle.semver_c.proofs.Replies.{one_replied}
+use Rattle.semver_c.proofs.Replies.{replied}
 use Rattle.semver_c.proofs.semver_errors.Goals as goal
 
 pub returns : goal.returns
 returns c =
     let fits : SFits w32 c.report_text.result = search rules in
-    rw (to_z-of_z w32 c.report_text.result fits) (one_replied _ _ c.errors_of.result c.errors_of.ensures _ _ c.args.out.now c.report_text.new.out c.report_text.new.needed c.report_text.result c.report_text.ensures)
+    rw (to_z-of_z w32 c.report_text.result fits) (replied _ _ c.errors_of.result c.errors_of.ensures _ _ c.args.out.now c.report_text.new.out c.report_text.new.needed c.report_text.result c.report_text.ensures)

@@ -14,6 +14,6 @@ pub returns : goal.returns
 returns c =
     let given = c.in_ok-given.given in
     let is : IfOk c.match-subject.fault (λ answer. IsFaultOf c.in_ok-subject.subject given.flavour given.text.now (option_map string_bytes answer)) = search rules in
-    let only : IfOk c.match-subject.fault (λ answer. (other : Option (List ℕ)) → IsFaultOf c.in_ok-subject.subject given.flavour given.text.now other → option_map string_bytes answer ≡ other) = search rules in
+    let only : (other : Option (List ℕ)) → IsFaultOf c.in_ok-subject.subject given.flavour given.text.now other → IfOk c.match-subject.fault (λ answer. option_map string_bytes answer ≡ other) = search rules in
     within _ _ (option_map string_bytes) c.map_err.result _ c.in_ok-subject.ensures (within _ _ (option_map string_bytes) c.map_err.result _ c.in_ok-given.ensures
     (asked_for _ (option_map string_bytes) c.map_err.result _ c.match-subject.fault (only_found _ (option_map string_bytes) c.match-subject.fault is only) c.map_err.ensures.cases (λ e p made. search rules)))
