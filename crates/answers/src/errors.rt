@@ -74,22 +74,14 @@ pub fn errors(
 ) -> Result<Vec<InvalidPiece>, AllocError>
     ensures { IfOk result (λ errors. AreInvalidPieces flavour range_text.now errors.items) }
 {
-    match invalid_pieces(alloc, range_text, flavour) {
-        Ok(errors) => Ok(errors),
-        // Only out of memory.
-        Err(_) => Err(AllocError),
-    }
+    invalid_pieces(alloc, range_text, flavour)
 }
 
 /// The index in a text at which it stops being a version; its length, if it only stops too early.
 pub fn version_error(alloc: Global, version_text: &str) -> Result<usize, AllocError>
     ensures { IfOk result (IsErrorPlace IsVersionText version_text.now) }
 {
-    match version_error_place(alloc, version_text) {
-        Ok(place) => Ok(place),
-        // Only out of memory.
-        Err(_) => Err(AllocError),
-    }
+    version_error_place(alloc, version_text)
 }
 
 /// Returns the errors of the text of a range as the text of a JSON array.

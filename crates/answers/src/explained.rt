@@ -90,10 +90,9 @@ impl Piece {
         ensures { IfOk result (IsExplainedPiece flavour pre_release is_followed text.now) }
     {
         read_ranges_are_writable();
-        let meaning = match RangeOrInvalid::parse(alloc, text, is_followed, flavour) {
-            Ok(RangeOrInvalid::Range(range)) => Meaning::of(alloc, pre_release, range)?,
-            Ok(RangeOrInvalid::Invalid(rejection)) => Meaning::LeftOut(rejection),
-            Err(_) => return Err(AllocError),
+        let meaning = match RangeOrInvalid::parse(alloc, text, is_followed, flavour)? {
+            RangeOrInvalid::Range(range) => Meaning::of(alloc, pre_release, range)?,
+            RangeOrInvalid::Invalid(rejection) => Meaning::LeftOut(rejection),
         };
         let text = String::from_str(alloc, text)?;
         Ok(Piece { text, meaning })

@@ -128,19 +128,17 @@ pub fn lowest(call: &str, arguments: &[Item], answer: &mut Answer) -> Reported {
 /// `error-place`: the index at which a text leaves the grammar of versions or of requirements.
 pub fn place_of_error(arguments: &[Item], answer: &mut Answer) -> Reported {
     let (grammar, text) = pair(arguments)?;
-    let found = match grammar {
-        "version" => version_error_place(answer.alloc, text),
-        _ => error_place(answer.alloc, text, flavour(grammar)?),
+    let place = match grammar {
+        "version" => version_error_place(answer.alloc, text)?,
+        _ => error_place(answer.alloc, text, flavour(grammar)?)?,
     };
-    let place = valid(found, answer)?;
     answer.displayed(&place)
 }
 
 /// `invalid-pieces`: of each invalid alternative, its start, its end, where it is wrong, and why the parser rejects it.
 pub fn pieces_of_error(arguments: &[Item], answer: &mut Answer) -> Reported {
     let (grammar, text) = pair(arguments)?;
-    let found = invalid_pieces(answer.alloc, text, flavour(grammar)?);
-    let pieces = valid(found, answer)?;
+    let pieces = invalid_pieces(answer.alloc, text, flavour(grammar)?)?;
     for piece in &pieces {
         answer.displayed(&piece.start)?;
         answer.displayed(&piece.end)?;

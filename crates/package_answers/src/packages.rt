@@ -126,11 +126,8 @@ pub(crate) fn range_errors(
     let Some((start, range)) = version_req_text(text) else {
         return Ok(PackageErrors::Range(Vec::new(alloc)));
     };
-    match invalid_pieces_behind(alloc, before + start, range, flavour) {
-        Ok(errors) => Ok(PackageErrors::Range(errors)),
-        // Only out of memory.
-        Err(_) => Err(AllocError),
-    }
+    let errors = invalid_pieces_behind(alloc, before + start, range, flavour)?;
+    Ok(PackageErrors::Range(errors))
 }
 
 /// Where the text of a package has the fault that its parser reports, and which part is missing there; `None` if its range is invalid.

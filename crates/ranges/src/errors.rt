@@ -22,11 +22,8 @@ pub fn errors_at_end(
     range: &str,
 ) -> Result<PackageErrors, AllocError> {
     let before = text.len().saturating_sub(range.len());
-    match invalid_pieces_behind(alloc, before, range, flavour) {
-        Ok(errors) => Ok(PackageErrors::Range(errors)),
-        // Only out of memory.
-        Err(_) => Err(AllocError),
-    }
+    let errors = invalid_pieces_behind(alloc, before, range, flavour)?;
+    Ok(PackageErrors::Range(errors))
 }
 
 /// Where an argument is invalid: the invalid alternatives of a range, also of one in a package, the part that a package lacks, and where

@@ -2,7 +2,7 @@
 //!
 //! No second parser decides it. Whether a prefix is viable is asked of the parser itself, on the prefix with a few endings behind it.
 
-ghost use Rattle.std.specs.Prelude.{◌≡◌, ◌↔◌, ◌++◌, IfErr, IfOk, IsTrue, List, ℕ, false, true, None};
+ghost use Rattle.std.specs.Prelude.{◌≡◌, ◌↔◌, ◌++◌, IfOk, IsTrue, List, ℕ, false, true};
 ghost use Rattle.semver_req.specs.Sizes.{Sized};
 ghost use Rattle.semver_req.specs.Viable.{HasPiece, HasRange, IsErrorPlace, IsPart, IsPieceOrCut, IsTextOf, IsViablePrefix, IsVersionText};
 ghost use Rattle.semver_req.specs.Pieces.{IsCutting};
@@ -14,10 +14,10 @@ pub mod pieces;
 use crate::common::comparator::non_primitive_front;
 use crate::common::values::Flavour;
 use crate::range_set_or_tag::RangeOrInvalid;
-use semver_base::failure::{ParseFailure, Rejection};
+use semver_base::failure::Rejection;
 use semver_base::lexical::values::Measured;
 use semver_base::version::Version;
-use std::alloc::Global;
+use std::alloc::{AllocError, Global};
 
 // The grammars in which places are found.
 #[derive(Clone, Copy)]
@@ -44,10 +44,9 @@ fn is_piece(
     is_followed: bool,
     flavour: Flavour,
     sizes: Sizes,
-) -> Result<bool, ParseFailure>
-    ensures value { IfOk result
+) -> Result<bool, AllocError>
+    ensures { IfOk result
         (λ yes. IsTrue yes ↔ HasPiece flavour sizes is_followed text.now) }
-    ensures memory { IfErr result (λ failure. failure ≡ None) }
 {
     match RangeOrInvalid::parse(alloc, text, is_followed, flavour)? {
         RangeOrInvalid::Range(range) => {
@@ -72,10 +71,9 @@ fn is_piece_with(
     ending: &str,
     flavour: Flavour,
     sizes: Sizes,
-) -> Result<bool, ParseFailure>
-    ensures value { IfOk result
+) -> Result<bool, AllocError>
+    ensures { IfOk result
         (λ yes. IsTrue yes ↔ HasPiece flavour sizes false (prefix.now ++ ending.now)) }
-    ensures memory { IfErr result (λ failure. failure ≡ None) }
 {
     let text = format!(in alloc; "{prefix}{ending}")?;
     is_piece(alloc, &text, false, flavour, sizes)
@@ -88,10 +86,9 @@ fn is_piece_before(
     bars: &str,
     flavour: Flavour,
     sizes: Sizes,
-) -> Result<bool, ParseFailure>
-    ensures value { IfOk result (λ yes. IsTrue yes ↔ ((piece : List ℕ)
+) -> Result<bool, AllocError>
+    ensures { IfOk result (λ yes. IsTrue yes ↔ ((piece : List ℕ)
         × (prefix.now ≡ piece ++ bars.now) × HasPiece flavour sizes true piece)) }
-    ensures memory { IfErr result (λ failure. failure ≡ None) }
 {
     match prefix.strip_suffix(bars) {
         Some(piece) => is_piece(alloc, piece, true, flavour, sizes),
@@ -105,11 +102,10 @@ fn is_viable_piece(
     prefix: &str,
     flavour: Flavour,
     sizes: Sizes,
-) -> Result<bool, ParseFailure>
+) -> Result<bool, AllocError>
     requires { IsCutting flavour }
-    ensures value { IfOk result
+    ensures { IfOk result
         (λ yes. IsTrue yes ↔ IsViablePrefix (Sized sizes (IsPieceOrCut flavour)) prefix.now) }
-    ensures memory { IfErr result (λ failure. failure ≡ None) }
 {
     if is_piece(alloc, prefix, true, flavour, sizes)? {
         return Ok(true);
@@ -130,9 +126,8 @@ fn is_viable_piece(
 }
 
 // Whether the text is a range of the strict grammar.
-fn is_range(alloc: Global, text: &str, sizes: Sizes) -> Result<bool, ParseFailure>
-    ensures value { IfOk result (λ yes. IsTrue yes ↔ HasRange sizes text.now) }
-    ensures memory { IfErr result (λ failure. failure ≡ None) }
+fn is_range(alloc: Global, text: &str, sizes: Sizes) -> Result<bool, AllocError>
+    ensures { IfOk result (λ yes. IsTrue yes ↔ HasRange sizes text.now) }
 {
     let Some((written, rest)) = non_primitive_front(alloc, text, Flavour::Specifier)? else {
         return Ok(false);
@@ -152,10 +147,9 @@ fn is_range(alloc: Global, text: &str, sizes: Sizes) -> Result<bool, ParseFailur
 const ENDINGS: [&str; 6] = ["", "1", "1.1", "1.1.1", ".1", ".1.1"];
 
 // Whether some text of the grammar begins with the prefix.
-fn is_viable(alloc: Global, prefix: &str, grammar: Grammar) -> Result<bool, ParseFailure>
-    ensures value { IfOk result
+fn is_viable(alloc: Global, prefix: &str, grammar: Grammar) -> Result<bool, AllocError>
+    ensures { IfOk result
         (λ yes. IsTrue yes ↔ IsViablePrefix (IsTextOf grammar) prefix.now) }
-    ensures memory { IfErr result (λ failure. failure ≡ None) }
 {
     match grammar {
         Grammar::Ranges(flavour, sizes) => match flavour {
@@ -177,7 +171,7 @@ fn is_viable(alloc: Global, prefix: &str, grammar: Grammar) -> Result<bool, Pars
                         drop(version);
                         return Ok(true);
                     }
-                    Err(error) if error.is_memory() => return Err(ParseFailure::memory()),
+                    Err(error) if error.is_memory() => return Err(AllocError),
                     Err(_error) => {}
                 }
             }
@@ -191,9 +185,8 @@ pub(crate) fn longest_viable(
     alloc: Global,
     text: &str,
     grammar: Grammar,
-) -> Result<usize, ParseFailure>
-    ensures place { IfOk result (IsErrorPlace (IsTextOf grammar) text.now) }
-    ensures memory { IfErr result (λ failure. failure ≡ None) }
+) -> Result<usize, AllocError>
+    ensures { IfOk result (IsErrorPlace (IsTextOf grammar) text.now) }
 {
     if is_viable(alloc, text, grammar)? {
         return Ok(text.len());
@@ -218,10 +211,9 @@ pub(crate) fn is_viable_with(
     prefix: &str,
     next: &str,
     grammar: Grammar,
-) -> Result<bool, ParseFailure>
-    ensures value { IfOk result
+) -> Result<bool, AllocError>
+    ensures { IfOk result
         (λ yes. IsTrue yes ↔ IsViablePrefix (IsTextOf grammar) (prefix.now ++ next.now)) }
-    ensures memory { IfErr result (λ failure. failure ≡ None) }
 {
     let text = format!(in alloc; "{prefix}{next}")?;
     is_viable(alloc, &text, grammar)
@@ -232,9 +224,8 @@ pub(crate) fn is_viable_with(
 /// that only stops too early, has its length as that index. Sizes of numbers don't matter.
 ///
 /// Takes time that grows as n log n. Fails only out of memory.
-pub fn error_place(alloc: Global, text: &str, flavour: Flavour) -> Result<usize, ParseFailure>
-    ensures place { IfOk result (IsErrorPlace (IsPart flavour) text.now) }
-    ensures memory { IfErr result (λ failure. failure ≡ None) }
+pub fn error_place(alloc: Global, text: &str, flavour: Flavour) -> Result<usize, AllocError>
+    ensures { IfOk result (IsErrorPlace (IsPart flavour) text.now) }
 {
     longest_viable(alloc, text, Grammar::Ranges(flavour, Sizes::Any))
 }
@@ -248,10 +239,9 @@ pub fn may_follow(
     prefix: &str,
     next: &str,
     flavour: Flavour,
-) -> Result<bool, ParseFailure>
-    ensures follows { IfOk result
+) -> Result<bool, AllocError>
+    ensures { IfOk result
         (λ yes. IsTrue yes ↔ IsViablePrefix (IsPart flavour) (prefix.now ++ next.now)) }
-    ensures memory { IfErr result (λ failure. failure ≡ None) }
 {
     is_viable_with(alloc, prefix, next, Grammar::Ranges(flavour, Sizes::Any))
 }
@@ -261,9 +251,8 @@ pub fn may_follow(
 /// text, and one that only stops too early, has its length as that index.
 ///
 /// Takes time that grows as n log n. Fails only out of memory.
-pub fn version_error_place(alloc: Global, text: &str) -> Result<usize, ParseFailure>
-    ensures place { IfOk result (IsErrorPlace IsVersionText text.now) }
-    ensures memory { IfErr result (λ failure. failure ≡ None) }
+pub fn version_error_place(alloc: Global, text: &str) -> Result<usize, AllocError>
+    ensures { IfOk result (IsErrorPlace IsVersionText text.now) }
 {
     longest_viable(alloc, text, Grammar::Versions)
 }
@@ -272,10 +261,9 @@ pub fn version_error_place(alloc: Global, text: &str) -> Result<usize, ParseFail
 /// with the text before it as the prefix.
 ///
 /// Fails only out of memory.
-pub fn version_may_follow(alloc: Global, prefix: &str, next: &str) -> Result<bool, ParseFailure>
-    ensures follows { IfOk result
+pub fn version_may_follow(alloc: Global, prefix: &str, next: &str) -> Result<bool, AllocError>
+    ensures { IfOk result
         (λ yes. IsTrue yes ↔ IsViablePrefix IsVersionText (prefix.now ++ next.now)) }
-    ensures memory { IfErr result (λ failure. failure ≡ None) }
 {
     is_viable_with(alloc, prefix, next, Grammar::Versions)
 }

@@ -39,16 +39,11 @@ const OF_VERSIONS: [Kind; 8] = [
 
 /// Where a text that isn't a version goes wrong, and what is expected there.
 pub fn version_errors(alloc: Global, text: &str) -> Result<Vec<InvalidPiece>, AllocError> {
-    // The calls fail out of memory alone.
-    let Ok(place) = version_error_place(alloc, text) else {
-        return Err(AllocError);
-    };
+    let place = version_error_place(alloc, text)?;
     let mut kinds = Vec::new(alloc);
     for kind in &OF_VERSIONS {
-        match version_may_follow(alloc, part(text, 0, place), kind.text()) {
-            Ok(true) => kinds.push(*kind)?,
-            Ok(false) => (),
-            Err(_) => return Err(AllocError),
+        if version_may_follow(alloc, part(text, 0, place), kind.text())? {
+            kinds.push(*kind)?;
         }
     }
     let expected = Expected {

@@ -72,14 +72,14 @@ pub fn operators_at(answer: &mut Answer) -> Reported {
 /// tags.
 pub fn next(answer: &mut Answer) -> Reported {
     let alloc = answer.alloc;
-    let expected = valid(expected_after(alloc, "1.2.3 - 2 ", Flavour::Npm), answer)?;
+    let expected = expected_after(alloc, "1.2.3 - 2 ", Flavour::Npm)?;
     for kind in &expected.kinds {
         answer.text(kind.text())?;
     }
     answer.yes_or_no(expected.may_end)?;
-    let follows = valid(may_follow(alloc, "1 |", "|", Flavour::Npm), answer)?;
+    let follows = may_follow(alloc, "1 |", "|", Flavour::Npm)?;
     answer.yes_or_no(follows)?;
-    let follows = valid(version_may_follow(alloc, "1.2.", "3"), answer)?;
+    let follows = version_may_follow(alloc, "1.2.", "3")?;
     answer.yes_or_no(follows)?;
     answer.yes_or_no(is_valid_npm_tag("latest"))?;
     answer.yes_or_no(is_valid_npm_tag("a b"))

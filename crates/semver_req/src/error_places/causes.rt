@@ -1,7 +1,7 @@
 //! What is wrong with an invalid alternative, and where.
 
 ghost use Rattle.semver_base.specs.declared.partial.Partial.{Partial};
-ghost use Rattle.std.specs.Prelude.{◌≡◌, IfErr, IfOk, None, Option, ℕ};
+ghost use Rattle.std.specs.Prelude.{◌≡◌, IfOk, Option, ℕ};
 ghost use Rattle.semver_base.specs.declared.failure.Rejection.TheVariants as rejection;
 ghost use Rattle.semver_req.specs.Partials.{sized_partial};
 ghost use Rattle.semver_req.specs.Written.{comparator_of};
@@ -13,9 +13,9 @@ use crate::common::values::Flavour;
 use crate::error_places::expected::{Expected, expected_after};
 use crate::error_places::{Grammar, Sizes, error_place, longest_viable};
 use crate::range_set_or_tag::is_tag_character;
-use semver_base::failure::{ParseFailure, Rejection};
+use semver_base::failure::Rejection;
 use semver_base::lexical::values::Measured;
-use std::alloc::Global;
+use std::alloc::{AllocError, Global};
 
 /// What is wrong with an alternative.
 #[derive(Debug, Drop)]
@@ -55,10 +55,9 @@ pub(crate) struct CauseAt {
 }
 
 // Whether the numbers of a comparator fit, and a bound of it doesn't.
-fn overflows(alloc: Global, written: Written) -> Result<bool, ParseFailure>
-    ensures value { (p : Partial) → written.partial ≡ sized_partial p
+fn overflows(alloc: Global, written: Written) -> Result<bool, AllocError>
+    ensures { (p : Partial) → written.partial ≡ sized_partial p
         → IfOk result (λ yes. yes ≡ overflows (comparator_of written.operator p)) }
-    ensures memory { IfErr result (λ failure. failure ≡ None) }
 {
     let Written { operator, partial } = written;
     let Measured::Fits(partial) = partial else {
@@ -71,16 +70,15 @@ fn overflows(alloc: Global, written: Written) -> Result<bool, ParseFailure>
             drop(range);
             Ok(false)
         }
-        Err(failure) if failure.is_memory() => Err(failure),
+        Err(failure) if failure.is_memory() => Err(AllocError),
         Err(_) => Ok(true),
     }
 }
 
 // The start of the first comparator of which a bound is too large; 0 for a hyphen range.
-fn large_bound(alloc: Global, piece: &str, flavour: Flavour) -> Result<usize, ParseFailure>
+fn large_bound(alloc: Global, piece: &str, flavour: Flavour) -> Result<usize, AllocError>
     requires { IsRejected flavour piece.now rejection.BoundTooLarge }
-    ensures place { IfOk result (IsBoundAt flavour piece.now) }
-    ensures memory { IfErr result (λ failure. failure ≡ None) }
+    ensures { IfOk result (IsBoundAt flavour piece.now) }
 {
     let Some((first, mut rest)) = comparator_front(alloc, piece, flavour)? else {
         return Ok(0);
@@ -108,12 +106,11 @@ pub(crate) fn cause_of(
     piece: &str,
     rejection: Rejection,
     flavour: Flavour,
-) -> Result<CauseAt, ParseFailure>
+) -> Result<CauseAt, AllocError>
     requires { IsRejected flavour piece.now rejection }
     ensures value { IfOk result (λ c. (outside : Option ℕ) × IsFirstOutsideTag piece.now outside
         × IsCauseAt flavour piece.now outside c.cause c.place) }
     ensures rejected { IfOk result (λ c. IsRejected flavour piece.now (rejection_of c.cause)) }
-    ensures memory { IfErr result (λ failure. failure ≡ None) }
 {
     // The index of the first character that no tag has.
     let outside = piece.find(|c: char| !is_tag_character(c));

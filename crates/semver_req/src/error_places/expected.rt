@@ -1,12 +1,11 @@
 //! What may stand at a place of a text.
 
-ghost use Rattle.std.specs.Prelude.{◌≡◌, IfErr, IfOk, None};
+ghost use Rattle.std.specs.Prelude.{◌≡◌, IfOk};
 ghost use Rattle.semver_req.specs.Kinds.{IsExpectation, kind_text};
 
 use crate::common::values::Flavour;
 use crate::error_places::{Sizes, is_piece, is_range, may_follow};
-use semver_base::failure::ParseFailure;
-use std::alloc::Global;
+use std::alloc::{AllocError, Global};
 
 /// Texts that may follow the same prefixes.
 #[derive(Clone, Copy, Debug, PartialEq, Eq)]
@@ -108,13 +107,8 @@ pub struct Expected {
 /// follow, each may.
 ///
 /// Fails only out of memory.
-pub fn expected_after(
-    alloc: Global,
-    prefix: &str,
-    flavour: Flavour,
-) -> Result<Expected, ParseFailure>
-    ensures value { IfOk result (IsExpectation flavour prefix.now) }
-    ensures memory { IfErr result (λ failure. failure ≡ None) }
+pub fn expected_after(alloc: Global, prefix: &str, flavour: Flavour) -> Result<Expected, AllocError>
+    ensures { IfOk result (IsExpectation flavour prefix.now) }
 {
     let may_end = match flavour {
         Flavour::Npm => is_piece(alloc, prefix, false, Flavour::Npm, Sizes::Any)?,
@@ -126,9 +120,7 @@ pub fn expected_after(
         if !may_follow(alloc, prefix, kind.text(), flavour)? {
             continue;
         }
-        if kinds.push(*kind).is_err() {
-            return Err(ParseFailure::memory());
-        }
+        kinds.push(*kind)?;
     }
     Ok(Expected { kinds, may_end })
 }

@@ -1,6 +1,6 @@
 //! The invalid alternatives of a text.
 
-ghost use Rattle.std.specs.Prelude.{◌≡◌, ◌++◌, ◌+◌, ◌<◌, ◌^◌, ◌∷◌, [], IfErr, IfOk, List, None, OnOk, length};
+ghost use Rattle.std.specs.Prelude.{◌≡◌, ◌++◌, ◌+◌, ◌<◌, ◌^◌, ◌∷◌, IfOk, List, OnOk, length};
 ghost use Rattle.semver_req.specs.Causes.{IsRejected};
 ghost use Rattle.semver_req.specs.InvalidPieces.{AreErrorsOf, AreInvalidBehind, AreInvalidPieces, IsErrorAt, IsErrorOf};
 ghost use Rattle.semver_req.specs.declared.error_places.pieces.InvalidPiece.{InvalidPiece};
@@ -10,7 +10,7 @@ use crate::common::values::Flavour;
 use crate::error_places::causes::{Cause, cause_of};
 use crate::range_set_or_tag::{RangeOrInvalid, cut};
 use crate::specifier::{Single, parse_single};
-use semver_base::failure::{ParseFailure, Rejection};
+use semver_base::failure::Rejection;
 use semver_base::lexical::{after_whitespace, is_all_whitespace};
 use std::alloc::{AllocError, Global};
 
@@ -34,11 +34,10 @@ fn error_of(
     piece: &str,
     rejection: Rejection,
     flavour: Flavour,
-) -> Result<InvalidPiece, ParseFailure>
+) -> Result<InvalidPiece, AllocError>
     requires in_memory { start + length piece.now < 2 ^ 64 }
     requires rejected { IsRejected flavour piece.now rejection }
-    ensures value { IfOk result (IsErrorOf flavour start piece.now) }
-    ensures memory { IfErr result (λ failure. failure ≡ None) }
+    ensures { IfOk result (IsErrorOf flavour start piece.now) }
 {
     let found = cause_of(alloc, piece, rejection, flavour)?;
     Ok(InvalidPiece {
@@ -49,16 +48,6 @@ fn error_of(
     })
 }
 
-fn push(errors: &mut Vec<InvalidPiece>, error: InvalidPiece) -> Result<(), ParseFailure>
-    ensures value { OnOk result (errors.new.items ≡ errors.old.items ++ error ∷ []) }
-    ensures memory { IfErr result (λ failure. failure ≡ None) }
-{
-    match errors.push(error) {
-        Ok(()) => Ok(()),
-        Err(failed) => Err(AllocError::from(failed).into()),
-    }
-}
-
 // Adds the error of an alternative that starts here, if it is invalid.
 fn add_error(
     alloc: Global,
@@ -67,13 +56,12 @@ fn add_error(
     piece: &str,
     is_followed: bool,
     flavour: Flavour,
-) -> Result<(), ParseFailure>
+) -> Result<(), AllocError>
     requires in_memory { start + length piece.now < 2 ^ 64 }
     requires cuts { IsCutting flavour }
-    ensures value { OnOk result ((found : List InvalidPiece)
+    ensures { OnOk result ((found : List InvalidPiece)
         × (errors.new.items ≡ errors.old.items ++ found)
         × IsErrorAt flavour is_followed start piece.now found) }
-    ensures memory { IfErr result (λ failure. failure ≡ None) }
 {
     match RangeOrInvalid::parse(alloc, piece, is_followed, flavour)? {
         RangeOrInvalid::Range(range) => {
@@ -82,7 +70,8 @@ fn add_error(
         }
         RangeOrInvalid::Invalid(rejection) => {
             let error = error_of(alloc, start, piece, rejection, flavour)?;
-            push(errors, error)
+            errors.push(error)?;
+            Ok(())
         }
     }
 }
@@ -93,11 +82,10 @@ fn errors_of(
     before: usize,
     text: &str,
     flavour: Flavour,
-) -> Result<Vec<InvalidPiece>, ParseFailure>
+) -> Result<Vec<InvalidPiece>, AllocError>
     requires in_memory { before + length text.now < 2 ^ 64 }
     requires cuts { IsCutting flavour }
-    ensures value { IfOk result (λ errors. AreErrorsOf flavour before text.now errors.items) }
-    ensures memory { IfErr result (λ failure. failure ≡ None) }
+    ensures { IfOk result (λ errors. AreErrorsOf flavour before text.now errors.items) }
 {
     let mut errors = Vec::new(alloc);
     let Some((first, mut rest)) = cut(text) else {
@@ -128,9 +116,8 @@ pub fn invalid_pieces(
     alloc: Global,
     text: &str,
     flavour: Flavour,
-) -> Result<Vec<InvalidPiece>, ParseFailure>
-    ensures value { IfOk result (λ errors. AreInvalidPieces flavour text.now errors.items) }
-    ensures memory { IfErr result (λ failure. failure ≡ None) }
+) -> Result<Vec<InvalidPiece>, AllocError>
+    ensures { IfOk result (λ errors. AreInvalidPieces flavour text.now errors.items) }
 {
     invalid_pieces_behind(alloc, 0, text, flavour)
 }
@@ -141,11 +128,10 @@ pub fn invalid_pieces_behind(
     before: usize,
     text: &str,
     flavour: Flavour,
-) -> Result<Vec<InvalidPiece>, ParseFailure>
+) -> Result<Vec<InvalidPiece>, AllocError>
     requires { before + length text.now < 2 ^ 64 }
-    ensures value { IfOk result
+    ensures { IfOk result
         (λ errors. AreInvalidBehind flavour before text.now errors.items) }
-    ensures memory { IfErr result (λ failure. failure ≡ None) }
 {
     match flavour {
         Flavour::Npm => {
@@ -168,7 +154,7 @@ pub fn invalid_pieces_behind(
                 Single::TooLarge(rejection) => rejection,
             };
             let error = error_of(alloc, before, text, rejection, Flavour::Specifier)?;
-            push(&mut errors, error)?;
+            errors.push(error)?;
             Ok(errors)
         }
     }

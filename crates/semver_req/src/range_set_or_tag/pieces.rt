@@ -1,6 +1,6 @@
 //! How npm's and the normalized grammar split a text at each `||`, and how they parse each piece.
 
-ghost use Rattle.std.specs.Prelude.{◌≡◌, ◌++◌, ◌∷◌, [], IfErr, IfOk, List, MatchOption, None, OnOk, ℕ};
+ghost use Rattle.std.specs.Prelude.{◌≡◌, ◌++◌, ◌∷◌, [], IfOk, List, MatchOption, None, OnOk, ℕ};
 ghost use Rattle.semver_base.specs.Grammar.{IsSeen};
 ghost use Rattle.semver_base.specs.declared.failure.Rejection.TheVariants.{BoundTooLarge};
 ghost use Rattle.semver_base.specs.declared.partial.Partial.{Partial};
@@ -34,12 +34,11 @@ pub enum RangeOrInvalid {
 }
 
 // Why a range couldn't be made: a bound is too large, or out of memory.
-fn no_range(failure: ParseFailure) -> Result<RangeOrInvalid, ParseFailure>
-    ensures bound { IfOk result (λ read. (read ≡ Invalid BoundTooLarge) × (failure ≡ None → ⊥)) }
-    ensures memory { IfErr result (λ failure. failure ≡ None) }
+fn no_range(failure: ParseFailure) -> Result<RangeOrInvalid, AllocError>
+    ensures { IfOk result (λ read. (read ≡ Invalid BoundTooLarge) × (failure ≡ None → ⊥)) }
 {
     if failure.is_memory() {
-        return Err(failure);
+        return Err(AllocError);
     }
     Ok(RangeOrInvalid::Invalid(Rejection::BoundTooLarge))
 }
@@ -48,10 +47,9 @@ impl RangeOrInvalid {
     // The range of one comparator, passed on unchanged but for its start. (Here and below values are dropped by name: to the
     // prover that is one call, instead of its steps at each way out.)
     #[inline(always)]
-    fn of_one(alloc: Global, written: Written) -> Result<RangeOrInvalid, ParseFailure>
-        ensures value { (p : Partial) → written.partial ≡ sized_partial p
+    fn of_one(alloc: Global, written: Written) -> Result<RangeOrInvalid, AllocError>
+        ensures { (p : Partial) → written.partial ≡ sized_partial p
             → IfOk result (λ read. read ≡ joined (comparator_of written.operator p ∷ [])) }
-        ensures memory { IfErr result (λ failure. failure ≡ None) }
     {
         let Written { operator, partial } = written;
         let Measured::Fits(partial) = partial else {
@@ -73,10 +71,9 @@ impl RangeOrInvalid {
         first: Written,
         text: &str,
         flavour: Flavour,
-    ) -> Result<(RangeOrInvalid, &str), ParseFailure>
-        ensures value { (piece : List ℕ) → IsFront (IsComparator flavour) piece first text.now
+    ) -> Result<(RangeOrInvalid, &str), AllocError>
+        ensures { (piece : List ℕ) → IsFront (IsComparator flavour) piece first text.now
             → IfOk result (λ r. IsSeen joined (IsComparators flavour) piece r.0 r.1.now) }
-        ensures memory { IfErr result (λ failure. failure ≡ None) }
     {
         let mut read = RangeOrInvalid::of_one(alloc, first)?;
         let mut rest = text;
@@ -113,9 +110,8 @@ impl RangeOrInvalid {
         alloc: Global,
         piece: &str,
         flavour: Flavour,
-    ) -> Result<Option<RangeOrInvalid>, ParseFailure>
-        ensures value { IfOk result (IsWholeRead (IsComparators flavour) piece.now) }
-        ensures memory { IfErr result (λ failure. failure ≡ None) }
+    ) -> Result<Option<RangeOrInvalid>, AllocError>
+        ensures { IfOk result (IsWholeRead (IsComparators flavour) piece.now) }
     {
         let Some((first, rest)) = comparator_front(alloc, piece, flavour)? else {
             return Ok(None);
@@ -131,9 +127,8 @@ impl RangeOrInvalid {
     }
 
     // The range of a hyphen range, if its numbers fit: from the lower bound of the first partial version to the upper bound of the second.
-    fn between(alloc: Global, hyphen: &HyphenRange) -> Result<RangeOrInvalid, ParseFailure>
-        ensures value { IfOk result (IsHyphenRead hyphen.now) }
-        ensures memory { IfErr result (λ failure. failure ≡ None) }
+    fn between(alloc: Global, hyphen: &HyphenRange) -> Result<RangeOrInvalid, AllocError>
+        ensures { IfOk result (IsHyphenRead hyphen.now) }
     {
         let Measured::Fits(lower) = &hyphen.lower else {
             return Ok(RangeOrInvalid::Invalid(Rejection::NumberTooLarge));
@@ -141,7 +136,9 @@ impl RangeOrInvalid {
         let Measured::Fits(upper) = &hyphen.upper else {
             return Ok(RangeOrInvalid::Invalid(Rejection::NumberTooLarge));
         };
-        let start = lower.as_lower_bound(alloc)?;
+        let Ok(start) = lower.as_lower_bound(alloc) else {
+            return Err(AllocError);
+        };
         match upper.as_upper_bound(alloc) {
             Ok(end) => Ok(RangeOrInvalid::Range(VersionRange { start, end })),
             Err(failure) => {
@@ -161,9 +158,8 @@ impl RangeOrInvalid {
         piece: &str,
         is_followed: bool,
         flavour: Flavour,
-    ) -> Result<RangeOrInvalid, ParseFailure>
-        ensures value { IfOk result (IsPieceRead flavour is_followed piece.now) }
-        ensures memory { IfErr result (λ failure. failure ≡ None) }
+    ) -> Result<RangeOrInvalid, AllocError>
+        ensures { IfOk result (IsPieceRead flavour is_followed piece.now) }
     {
         let filling = if is_followed {
             after_whitespace(piece)
@@ -285,9 +281,8 @@ impl Alternatives {
         piece: &str,
         is_followed: bool,
         flavour: Flavour,
-    ) -> Result<(), ParseFailure>
-        ensures value { OnOk result (IsAdded flavour is_followed piece.now self.old self.new) }
-        ensures memory { IfErr result (λ failure. failure ≡ None) }
+    ) -> Result<(), AllocError>
+        ensures { OnOk result (IsAdded flavour is_followed piece.now self.old self.new) }
     {
         let read = RangeOrInvalid::parse(alloc, piece, is_followed, flavour)?;
         if let RangeOrInvalid::Invalid(rejection) = &read {
@@ -307,10 +302,9 @@ impl Alternatives {
         piece: &str,
         is_followed: bool,
         flavour: Flavour,
-    ) -> Result<(), ParseFailure>
+    ) -> Result<(), AllocError>
         requires { IsCutting flavour }
-        ensures value { OnOk result (IsAdded flavour is_followed piece.now self.old self.new) }
-        ensures memory { IfErr result (λ failure. failure ≡ None) }
+        ensures { OnOk result (IsAdded flavour is_followed piece.now self.old self.new) }
     {
         if is_followed || !self.is_only {
             if let Some(range) = short_piece(piece.strip_suffix(' ').unwrap_or(piece), flavour) {

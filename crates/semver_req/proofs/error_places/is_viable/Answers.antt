@@ -12,22 +12,22 @@ is_viable_piece-requires c = npm
 pub is_viable_piece-requires-in-Normal : goal.is_viable_piece-requires-in-Normal
 is_viable_piece-requires-in-Normal c = normal
 
-pub returns-in-Npm-clause-value : goal.returns-in-Npm-clause-value
-returns-in-Npm-clause-value c = rw (c.in-Ranges.is, c.in-Npm.is) c.is_viable_piece.ensures.value
+pub returns-in-Npm : goal.returns-in-Npm
+returns-in-Npm c = rw (c.in-Ranges.is, c.in-Npm.is) c.is_viable_piece.ensures
 
-pub returns-in-Normal-clause-value : goal.returns-in-Normal-clause-value
-returns-in-Normal-clause-value c = rw (c.in-Ranges.is, c.in-Normal.is) c.is_viable_piece-in-Normal.ensures.value
+pub returns-in-Normal : goal.returns-in-Normal
+returns-in-Normal c = rw (c.in-Ranges.is, c.in-Normal.is) c.is_viable_piece-in-Normal.ensures
 
-pub returns-then-branch-clause-value : goal.returns-then-branch-clause-value
-returns-then-branch-clause-value c = rw (c.in-Ranges.is, c.in-Specifier.is) (λ t. range_viable c.in-Ranges.sizes c.args.prefix.now (c.in_ok-is_range-in-Specifier.ensures.value.0 c.if-branch.true), λ v. refl)
+pub returns-then-branch : goal.returns-then-branch
+returns-then-branch c = rw (c.in-Ranges.is, c.in-Specifier.is) (λ t. range_viable c.in-Ranges.sizes c.args.prefix.now (c.in_ok-is_range-in-Specifier.ensures.0 c.if-branch.true), λ v. refl)
 
-pub returns-in_ok-text-in-Specifier-clause-value : goal.returns-in_ok-text-in-Specifier-clause-value
-returns-in_ok-text-in-Specifier-clause-value c =
+pub returns-in_ok-text-in-Specifier : goal.returns-in_ok-text-in-Specifier
+returns-in_ok-text-in-Specifier c =
     let e = c.deref.ensures ∙ c.in_ok-text-in-Specifier.ensures.ok in
     let fact = c.in_ok-is_range-in-Specifier in
     rw (c.in-Ranges.is, c.in-Specifier.is) (IfOk-weaker c.is_range-in-Specifier.result _ _
-    (λ b h. (λ t. range_with_viable c.in-Ranges.sizes c.args.prefix.now c.deref.result.now e (h.0 t), λ v. h.1 (range_with c.in-Ranges.sizes c.args.prefix.now c.deref.result.now e (λ k. both_ways fact.field-0 c.if-branch.false (fact.ensures.value.1 k)) v)))
-    c.is_range-in-Specifier.ensures.value)
+    (λ b h. (λ t. range_with_viable c.in-Ranges.sizes c.args.prefix.now c.deref.result.now e (h.0 t), λ v. h.1 (range_with c.in-Ranges.sizes c.args.prefix.now c.deref.result.now e (λ k. both_ways fact.field-0 c.if-branch.false (fact.ensures.1 k)) v)))
+    c.is_range-in-Specifier.ensures)
 
 pub loop-ending-init : goal.loop-ending-init
 loop-ending-init c = λ k less made. omega arith
@@ -42,11 +42,11 @@ loop-ending-preserved c = λ k less made. elim (cases_lt k c.loop-ending.ending-
       cc (c.if-is_memory.ensures.1 none)
 ]
 
-pub returns-in-Ok-clause-value : goal.returns-in-Ok-clause-value
-returns-in-Ok-clause-value c = rw c.in-Versions.is (search rules)
+pub returns-in-Ok : goal.returns-in-Ok
+returns-in-Ok c = rw c.in-Versions.is (search rules)
 
-pub returns-after-loop-ending-clause-value : goal.returns-after-loop-ending-clause-value
-returns-after-loop-ending-clause-value c = rw c.in-Versions.is (
+pub returns-after-loop-ending : goal.returns-after-loop-ending
+returns-after-loop-ending c = rw c.in-Versions.is (
   λ t. cc t,
   λ v. absurd (none_made c.args.prefix.now c.utf8.prefix
       (λ m. c.loop-ending.invariant 0 (omega (arith, c.loop-ending-test.false)) m)

@@ -4,31 +4,31 @@ use Rattle.std.proofs.lemmas.Result.{IfOk-weaker}
 use Rattle.semver_req.proofs.ViableParts.{bar_viable, bars_viable, whitespace_one_text, one_byte_text, piece_viable, sixth, with_viable}
 use Rattle.semver_req.proofs.error_places.is_viable_piece.Goals as goal
 
-pub returns-then-branch-clause-value : goal.returns-then-branch-clause-value
-returns-then-branch-clause-value c = (λ t. piece_viable c.args.flavour c.args.sizes c.args.prefix.now (c.in_ok-is_piece.ensures.value.0 c.if-branch.true), λ v. refl)
+pub returns-then-branch : goal.returns-then-branch
+returns-then-branch c = (λ t. piece_viable c.args.flavour c.args.sizes c.args.prefix.now (c.in_ok-is_piece.ensures.0 c.if-branch.true), λ v. refl)
 
-pub returns-then-branch-2-clause-value : goal.returns-then-branch-2-clause-value
-returns-then-branch-2-clause-value c = (λ t. with_viable c.args.flavour c.args.sizes c.args.prefix.now (49 ∷ []) (one_byte_text 49 (omega arith)) (c.in_ok-is_piece_with.ensures.value.0 c.if-branch-2.true), λ v. refl)
+pub returns-then-branch-2 : goal.returns-then-branch-2
+returns-then-branch-2 c = (λ t. with_viable c.args.flavour c.args.sizes c.args.prefix.now (49 ∷ []) (one_byte_text 49 (omega arith)) (c.in_ok-is_piece_with.ensures.0 c.if-branch-2.true), λ v. refl)
 
-pub returns-then-branch-3-clause-value : goal.returns-then-branch-3-clause-value
-returns-then-branch-3-clause-value c = (λ t. with_viable c.args.flavour c.args.sizes c.args.prefix.now (32 ∷ 49 ∷ []) whitespace_one_text (c.in_ok-is_piece_with-2.ensures.value.0 c.if-branch-3.true), λ v. refl)
+pub returns-then-branch-3 : goal.returns-then-branch-3
+returns-then-branch-3 c = (λ t. with_viable c.args.flavour c.args.sizes c.args.prefix.now (32 ∷ 49 ∷ []) whitespace_one_text (c.in_ok-is_piece_with-2.ensures.0 c.if-branch-3.true), λ v. refl)
 
-pub returns-then-branch-4-clause-value : goal.returns-then-branch-4-clause-value
-returns-then-branch-4-clause-value c = (λ t. with_viable c.args.flavour c.args.sizes c.args.prefix.now (38 ∷ []) (one_byte_text 38 (omega arith)) (c.in_ok-is_piece_with-3.ensures.value.0 c.if-branch-4.true), λ v. refl)
+pub returns-then-branch-4 : goal.returns-then-branch-4
+returns-then-branch-4 c = (λ t. with_viable c.args.flavour c.args.sizes c.args.prefix.now (38 ∷ []) (one_byte_text 38 (omega arith)) (c.in_ok-is_piece_with-3.ensures.0 c.if-branch-4.true), λ v. refl)
 
-pub returns-then-branch-5-clause-value : goal.returns-then-branch-5-clause-value
-returns-then-branch-5-clause-value c = (λ t. bar_viable c.args.flavour c.args.sizes c.args.prefix.now (c.in_ok-is_piece_before.ensures.value.0 c.if-branch-5.true), λ v. refl)
+pub returns-then-branch-5 : goal.returns-then-branch-5
+returns-then-branch-5 c = (λ t. bar_viable c.args.flavour c.args.sizes c.args.prefix.now (c.in_ok-is_piece_before.ensures.0 c.if-branch-5.true), λ v. refl)
 
-pub returns-clause-value : goal.returns-clause-value
-returns-clause-value c =
+pub returns : goal.returns
+returns c =
     IfOk-weaker c.is_piece_before-2.result _ _
     (λ b h. (
       λ t. bars_viable c.args.flavour c.args.sizes c.args.prefix.now (h.0 t),
       λ v. h.1 (sixth c.args.flavour c.args.sizes c.requires c.args.prefix.now
-          (λ k. both_ways c.in_ok-is_piece.field-0 c.if-branch.false (c.in_ok-is_piece.ensures.value.1 k))
-          (λ k. both_ways c.in_ok-is_piece_with.field-0 c.if-branch-2.false (c.in_ok-is_piece_with.ensures.value.1 k))
-          (λ k. both_ways c.in_ok-is_piece_with-2.field-0 c.if-branch-3.false (c.in_ok-is_piece_with-2.ensures.value.1 k))
-          (λ k. both_ways c.in_ok-is_piece_with-3.field-0 c.if-branch-4.false (c.in_ok-is_piece_with-3.ensures.value.1 k))
-          (λ k. both_ways c.in_ok-is_piece_before.field-0 c.if-branch-5.false (c.in_ok-is_piece_before.ensures.value.1 k)) v),
+          (λ k. both_ways c.in_ok-is_piece.field-0 c.if-branch.false (c.in_ok-is_piece.ensures.1 k))
+          (λ k. both_ways c.in_ok-is_piece_with.field-0 c.if-branch-2.false (c.in_ok-is_piece_with.ensures.1 k))
+          (λ k. both_ways c.in_ok-is_piece_with-2.field-0 c.if-branch-3.false (c.in_ok-is_piece_with-2.ensures.1 k))
+          (λ k. both_ways c.in_ok-is_piece_with-3.field-0 c.if-branch-4.false (c.in_ok-is_piece_with-3.ensures.1 k))
+          (λ k. both_ways c.in_ok-is_piece_before.field-0 c.if-branch-5.false (c.in_ok-is_piece_before.ensures.1 k)) v),
     ))
-    c.is_piece_before-2.ensures.value
+    c.is_piece_before-2.ensures

@@ -7,7 +7,7 @@ use Rattle.semver_req.proofs.error_places.longest_viable.Goals as goal
 
 pub loop-high-init : goal.loop-high-init
 loop-high-init c =
-    let never : IsViablePrefix (IsTextOf c.args.grammar) c.args.text.now → ⊥ = λ v. both_ways c.in_ok-is_viable.field-0 c.if-branch.false (c.in_ok-is_viable.ensures.value.1 v) in
+    let never : IsViablePrefix (IsTextOf c.args.grammar) c.args.text.now → ⊥ = λ v. both_ways c.in_ok-is_viable.field-0 c.if-branch.false (c.in_ok-is_viable.ensures.1 v) in
     record {
       order = text_some c.args.grammar c.args.text.now never;
       within = omega arith;
@@ -22,7 +22,7 @@ loop-high-preserved-then-branch-2 c =
     record {
       order = omega (arith, c.loop-high-test.true, i.order);
       within = i.within;
-      below = λ n b le. shorter_viable c.args.text.now n f.result c.utf8.text b f.ensures.boundary (up_to c.args.text.now n f.result _ f.ensures.nearest b le) (rw (c.range.ensures.value ∙ slice_front c.args.text.now f.result) at (c.in_ok-is_viable-2.ensures.value.0 c.if-branch-2.true));
+      below = λ n b le. shorter_viable c.args.text.now n f.result c.utf8.text b f.ensures.boundary (up_to c.args.text.now n f.result _ f.ensures.nearest b le) (rw (c.range.ensures.value ∙ slice_front c.args.text.now f.result) at (c.in_ok-is_viable-2.ensures.0 c.if-branch-2.true));
       above = i.above;
     }
 
@@ -34,5 +34,5 @@ loop-high-preserved c =
       order = omega (arith, c.loop-high-test.true, i.order);
       within = omega (arith, c.loop-high-test.true, i.order, i.within);
       below = i.below;
-      above = λ n b le v. both_ways c.in_ok-is_viable-2.field-0 c.if-branch-2.false (c.in_ok-is_viable-2.ensures.value.1 (rw (c.range.ensures.value ∙ slice_front c.args.text.now f.result) (shorter_viable c.args.text.now f.result n c.utf8.text f.ensures.boundary b (omega (arith, f.ensures.bound, le)) v)));
+      above = λ n b le v. both_ways c.in_ok-is_viable-2.field-0 c.if-branch-2.false (c.in_ok-is_viable-2.ensures.1 (rw (c.range.ensures.value ∙ slice_front c.args.text.now f.result) (shorter_viable c.args.text.now f.result n c.utf8.text f.ensures.boundary b (omega (arith, f.ensures.bound, le)) v)));
     }

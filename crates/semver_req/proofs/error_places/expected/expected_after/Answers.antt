@@ -13,21 +13,21 @@ pub loop-kind-preserved-then-not-branch : goal.loop-kind-preserved-then-not-bran
 loop-kind-preserved-then-not-branch c =
     let l = c.loop-kind in
     let isnt : c.in_ok-may_follow.field-0 ≡ false = search rules in
-    next_not c.args.flavour c.args.prefix.now all_kinds l.kinds.items l.kind-index _ c.loop-kind-test.true l.invariant isnt (expected c.args.flavour c.args.prefix.now _ _ (rw c.text.ensures.text at c.in_ok-may_follow.ensures.follows))
+    next_not c.args.flavour c.args.prefix.now all_kinds l.kinds.items l.kind-index _ c.loop-kind-test.true l.invariant isnt (expected c.args.flavour c.args.prefix.now _ _ (rw c.text.ensures.text at c.in_ok-may_follow.ensures))
 
 pub loop-kind-preserved : goal.loop-kind-preserved
 loop-kind-preserved c =
     let l = c.loop-kind in
     let is : c.in_ok-may_follow.field-0 ≡ true = search rules in
     let pushed : c.push.new.self.items ≡ l.kinds.items ++ get_or all_kinds l.kind-index kind.Digit ∷ [] = search rules in
-    rw pushed (next_expected c.args.flavour c.args.prefix.now all_kinds l.kinds.items l.kind-index _ c.loop-kind-test.true l.invariant is (expected c.args.flavour c.args.prefix.now _ _ (rw c.text.ensures.text at c.in_ok-may_follow.ensures.follows)))
+    rw pushed (next_expected c.args.flavour c.args.prefix.now all_kinds l.kinds.items l.kind-index _ c.loop-kind-test.true l.invariant is (expected c.args.flavour c.args.prefix.now _ _ (rw c.text.ensures.text at c.in_ok-may_follow.ensures)))
 
-pub returns-clause-value : goal.returns-clause-value
-returns-clause-value c = record {
+pub returns : goal.returns
+returns c = record {
   kinds = rw (take_all c.loop-kind.kind-index all_kinds c.loop-kind-test.false) at c.loop-kind.invariant;
   ends = elim c.match-flavour.branch [
-    | in-Npm+in_ok-may_end-in-Npm w ↦ rw (w.may_end-is, w.in-Npm.is) w.in_ok-may_end-in-Npm.ensures.value
-    | in-Normal+in_ok-may_end-in-Normal w ↦ rw (w.may_end-is, w.in-Normal.is) w.in_ok-may_end-in-Normal.ensures.value
-    | in-Specifier+in_ok-may_end-in-Specifier w ↦ rw (w.may_end-is, w.in-Specifier.is) w.in_ok-may_end-in-Specifier.ensures.value
+    | in-Npm+in_ok-may_end-in-Npm w ↦ rw (w.may_end-is, w.in-Npm.is) w.in_ok-may_end-in-Npm.ensures
+    | in-Normal+in_ok-may_end-in-Normal w ↦ rw (w.may_end-is, w.in-Normal.is) w.in_ok-may_end-in-Normal.ensures
+    | in-Specifier+in_ok-may_end-in-Specifier w ↦ rw (w.may_end-is, w.in-Specifier.is) w.in_ok-may_end-in-Specifier.ensures
   ];
 }

@@ -2,14 +2,14 @@ use Rattle.std.proofs.Common.{◌++◌, ◌∷◌, [], length, rules, refl, sym,
 use Rattle.semver_req.proofs.InvalidPieces.{first_piece, further, last_one, next_one, none_more, only_piece}
 use Rattle.semver_req.proofs.error_places.pieces.errors_of.Goals as goal
 
-pub returns-in_default-clause-value : goal.returns-in_default-clause-value
-returns-in_default-clause-value c =
-    let added = c.in_ok-add_error.ensures.value in
+pub returns-in_default : goal.returns-in_default
+returns-in_default c =
+    let added = c.in_ok-add_error.ensures in
     only_piece c.args.flavour c.args.before c.args.text.now c.add_error.new.errors.items added.0 (rw c.in_default.is at c.cut.ensures) (rw c.new-errors.ensures.items at added.1) added.2
 
 pub loop-from-init : goal.loop-from-init
 loop-from-init c =
-    let added = c.in_ok-add_error-2.ensures.value in
+    let added = c.in_ok-add_error-2.ensures in
     let cut = c.in-Some.ensures in
     record {
       is_text = search rules;
@@ -18,8 +18,8 @@ loop-from-init c =
       so_far = first_piece c.args.flavour c.args.before c.args.text.now c.in-Some.first.now c.in-Some.rest.now c.add_error-2.new.errors.items added.0 cut (rw c.new-errors.ensures.items at added.1) added.2;
     }
 
-pub returns-then-is_empty-clause-value : goal.returns-then-is_empty-clause-value
-returns-then-is_empty-clause-value c =
+pub returns-then-is_empty : goal.returns-then-is_empty
+returns-then-is_empty c =
     let i = c.loop-from.invariant in
     none_more c.args.flavour c.args.before c.args.text.now i.front c.loop-from.rest.now c.after_whitespace-from.result.now c.loop-from.errors.items i.text_is i.so_far c.after_whitespace-from.ensures (sym c.if-is_empty.ensures)
 
@@ -29,10 +29,10 @@ overflow_sub-start c =
     let b = c.after_whitespace-from.ensures in
     omega (arith, ap length i.text_is, length-append i.front c.loop-from.rest.now, ap length b.text_is, length-append b.front c.after_whitespace-from.result.now)
 
-pub returns-in_default-cut-clause-value : goal.returns-in_default-cut-clause-value
-returns-in_default-cut-clause-value c =
+pub returns-in_default-cut : goal.returns-in_default-cut
+returns-in_default-cut c =
     let i = c.loop-from.invariant in
-    let added = c.in_ok-add_error-3.ensures.value in
+    let added = c.in_ok-add_error-3.ensures in
     last_one c.args.flavour c.args.before c.args.text.now i.front c.loop-from.rest.now c.after_whitespace-from.result.now c.loop-from.errors.items i.text_is i.so_far c.after_whitespace-from.ensures _ c.add_error-in_default-cut.new.errors.items added.0 refl (sym c.if-is_empty.ensures) (rw c.in_default-cut.is at c.cut-in-loop-from.ensures) added.1 added.2
 
 pub loop-from-smaller : goal.loop-from-smaller
@@ -44,7 +44,7 @@ loop-from-smaller c =
 pub loop-from-preserved : goal.loop-from-preserved
 loop-from-preserved c =
     let i = c.loop-from.invariant in
-    let added = c.in_ok-add_error-4.ensures.value in
+    let added = c.in_ok-add_error-4.ensures in
     record {
       is_text = search rules;
       front = (i.front ++ c.after_whitespace-from.ensures.front) ++ (c.in-Some-cut.piece.now ++ (124 ∷ 124 ∷ []));

@@ -13,12 +13,12 @@ errors_of-requires-clause-cuts c = npm
 pub errors_of-requires-in-Normal-clause-cuts : goal.errors_of-requires-in-Normal-clause-cuts
 errors_of-requires-in-Normal-clause-cuts c = normal
 
-pub returns-in-Npm-clause-value : goal.returns-in-Npm-clause-value
-returns-in-Npm-clause-value c =
-    rw c.in-Npm.is (IfOk-weaker c.errors_of.result _ _ (λ errors h. trimmed_errors c.trim_start-rest.ensures.value c.trim_start-rest.ensures.trim c.trim_end.ensures.trim h) c.errors_of.ensures.value)
+pub returns-in-Npm : goal.returns-in-Npm
+returns-in-Npm c =
+    rw c.in-Npm.is (IfOk-weaker c.errors_of.result _ _ (λ errors h. trimmed_errors c.trim_start-rest.ensures.value c.trim_start-rest.ensures.trim c.trim_end.ensures.trim h) c.errors_of.ensures)
 
-pub returns-in-Range-clause-value : goal.returns-in-Range-clause-value
-returns-in-Range-clause-value c = rw c.in-Specifier.is (no_error c.new-errors.ensures.items (whole_range (rw c.in-Range.is at c.in_ok-found-in-Specifier.ensures)))
+pub returns-in-Range : goal.returns-in-Range
+returns-in-Range c = rw c.in-Specifier.is (no_error c.new-errors.ensures.items (whole_range (rw c.in-Range.is at c.in_ok-found-in-Specifier.ensures)))
 
 pub error_of-requires-clause-rejected : goal.error_of-requires-clause-rejected
 error_of-requires-clause-rejected c = elim c.match-found.branch [
@@ -28,5 +28,5 @@ error_of-requires-clause-rejected c = elim c.match-found.branch [
   | in-TooLarge w ↦ rw w.rejection-is (large_rejection (rw w.in-TooLarge.is at c.in_ok-found-in-Specifier.ensures))
 ]
 
-pub returns-in_ok-push-in-Specifier-clause-value : goal.returns-in_ok-push-in-Specifier-clause-value
-returns-in_ok-push-in-Specifier-clause-value c = rw c.in-Specifier.is (strict_error c.new-errors.ensures.items c.in_ok-push-in-Specifier.ensures.value c.in_ok-error-in-Specifier.ensures.value)
+pub returns-in_ok-push-in-Specifier : goal.returns-in_ok-push-in-Specifier
+returns-in_ok-push-in-Specifier c = rw c.in-Specifier.is (strict_error c.new-errors.ensures.items c.in_ok-push-in-Specifier.ensures.items c.in_ok-error-in-Specifier.ensures)

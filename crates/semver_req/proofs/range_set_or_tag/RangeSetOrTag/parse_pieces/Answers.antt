@@ -10,14 +10,14 @@ use Rattle.semver_req.proofs.range_set_or_tag.RangeSetOrTag.parse_pieces.Goals.{
 
 pub returns-in_err-add-clause-rejection : goal.returns-in_err-add-clause-rejection
 returns-in_err-add-clause-rejection c =
-    err_reports (λ e. e) c.from_residual.result c.in_err-add.field-0.0 (IsCutRejection c.args.flavour c.args.text.now) c.from_residual.ensures.1 (rw c.in_err-add.ensures.memory is_out_of_memory)
+    err_reports (λ e. e) c.from_residual.result None (IsCutRejection c.args.flavour c.args.text.now) c.from_residual.ensures.1 is_out_of_memory
 
 pub add-requires : goal.add-requires
 add-requires c = c.requires
 
 pub loop-piece-init : goal.loop-piece-init
 loop-piece-init c =
-    let added = c.in_ok-add.ensures.value in
+    let added = c.in_ok-add.ensures in
     record {
       is_text = search rules;
       others = [];
@@ -28,7 +28,7 @@ loop-piece-init c =
 pub loop-piece-preserved : goal.loop-piece-preserved
 loop-piece-preserved c =
     let so_far = c.loop-piece.invariant in
-    let added = c.in_ok-add-2.ensures.value in
+    let added = c.in_ok-add-2.ensures in
     let next = rw c.in-Some.is at c.next_piece.ensures in
     record {
       is_text = search rules;
@@ -39,7 +39,7 @@ loop-piece-preserved c =
 
 pub returns-in_err-add-2-clause-rejection : goal.returns-in_err-add-2-clause-rejection
 returns-in_err-add-2-clause-rejection c =
-    err_reports (λ e. e) c.from_residual-in_err-add-2.result c.in_err-add-2.field-0.0 (IsCutRejection c.args.flavour c.args.text.now) c.from_residual-in_err-add-2.ensures.1 (rw c.in_err-add-2.ensures.memory is_out_of_memory)
+    err_reports (λ e. e) c.from_residual-in_err-add-2.result None (IsCutRejection c.args.flavour c.args.text.now) c.from_residual-in_err-add-2.ensures.1 is_out_of_memory
 
 pub returns-in_default-rejected-clause-reading : goal.returns-in_default-rejected-clause-reading
 returns-in_default-rejected-clause-reading c =

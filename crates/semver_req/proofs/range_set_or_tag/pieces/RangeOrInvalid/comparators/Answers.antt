@@ -10,7 +10,7 @@ loop-next-init c = record {
   is_text = search rules;
   others = [];
   so_far = λ piece front. so_far_one (listing c.args.flavour) front.longest;
-  read = λ p seen. c.in_ok-read.ensures.value p seen;
+  read = λ p seen. c.in_ok-read.ensures p seen;
 }
 
 pub loop-next-preserved-in_default-TooLarge : goal.loop-next-preserved-in_default-TooLarge
@@ -77,7 +77,7 @@ loop-next-preserved c =
       so_far = λ piece first. so_far_more (listing c.args.flavour) (loop.so_far piece first) c.in-Some.ensures front.longest;
       read = λ p seen.
           let others = comparator_of c.args.first.operator p ∷ loop.others in
-          c.in_ok-read-in-Err.ensures.bound.0 ∙ and_bound c.in-Some-2.written.operator others front.partial (rw c.in-Range-Fits.is-0 at (loop.read p seen)) (rw c.in-Range-Fits.is-1 at front.seen) c.in-Err.ensures.rejected c.in_ok-read-in-Err.ensures.bound.1;
+          c.in_ok-read-in-Err.ensures.0 ∙ and_bound c.in-Some-2.written.operator others front.partial (rw c.in-Range-Fits.is-0 at (loop.read p seen)) (rw c.in-Range-Fits.is-1 at front.seen) c.in-Err.ensures.rejected c.in_ok-read-in-Err.ensures.1;
     }
 
 pub loop-next-smaller : goal.loop-next-smaller
@@ -85,8 +85,8 @@ loop-next-smaller c =
     let front = rw c.in-Some-2.is at c.in_ok-written.ensures in
     list_shorter c.args.flavour c.in-Some.ensures front.longest
 
-pub returns-in_default-2-clause-value : goal.returns-in_default-2-clause-value
-returns-in_default-2-clause-value c =
+pub returns-in_default-2 : goal.returns-in_default-2
+returns-in_default-2 c =
     λ piece first.
     let loop = c.loop-next.invariant in
     record {
@@ -95,8 +95,8 @@ returns-in_default-2-clause-value c =
       seen = loop.read first.partial first.seen;
     }
 
-pub returns-clause-value : goal.returns-clause-value
-returns-clause-value c =
+pub returns : goal.returns
+returns c =
     λ piece first.
     let loop = c.loop-next.invariant in
     record {
