@@ -19,7 +19,7 @@ pub use errors::{
 pub use name_version::PackageNvParseError;
 pub use nv_reference::{PackageNvReference, PackageNvReferenceParseError, SpecifierError};
 pub use order::cmp_version_reqs;
-pub(crate) use read::{normal_req_text, package_req};
+pub(crate) use read::normal_req_text;
 pub use reference::PackageReqReference;
 pub use registry::{Registry, RegistryNvReference, RegistryReqReference};
 pub use values::{PackageKind, PackageName, PackageNv, PackageReq, PackageSubPath};

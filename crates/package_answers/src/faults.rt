@@ -4,12 +4,14 @@ ghost use Rattle.std.specs.Prelude.{◌≡◌, IfOk, List, Option, string_bytes,
 ghost use Rattle.std.specs.Option.{option_copied, option_map};
 ghost use Rattle.package_answers.specs.Faults.{IsFaultText, IsPackageFault, IsReferenceFault, parts_kind};
 
-use crate::packages::{parse as parse_package, parts_failure};
+use crate::packages::parts_failure;
 use crate::references::{parse as parse_reference, reference_failure, registry_of};
 use answers::object::{Object, json_text};
 use deno_semver::ParseFailure;
 use deno_semver::laws::{package_texts_have_one_outcome, references_have_one_outcome};
-use deno_semver::package::{PackageReqPartsParseError, PackageReqReferenceParseError};
+use deno_semver::package::{
+    PackageReq, PackageReqPartsParseError, PackageReqReferenceParseError,
+};
 use semver_req::common::values::Flavour;
 use semver_req::laws::texts_are_rejected_for_one_reason;
 use std::alloc::{AllocError, Global};
@@ -66,7 +68,7 @@ pub fn package_fault(
 {
     texts_are_rejected_for_one_reason();
     package_texts_have_one_outcome();
-    match parse_package(alloc, flavour, text) {
+    match PackageReq::parse(alloc, text, flavour) {
         Ok(_req) => Ok(None),
         Err(error) => {
             let kind = parts_kind(&error.source);

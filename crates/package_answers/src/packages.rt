@@ -15,7 +15,7 @@ use answers::object::{Object, json_text};
 use deno_semver::ParseFailure;
 use deno_semver::laws::{package_texts_have_one_outcome, requirements_stand_at_one_place};
 use deno_semver::package::{
-    PackageReq, PackageReqParseError, PackageReqPartsParseError, version_req_text,
+    PackageReq, PackageReqPartsParseError, version_req_text,
 };
 use semver_base::lexical::after;
 use semver_req::common::values::Flavour;
@@ -53,25 +53,6 @@ pub fn package_json(alloc: Global, req: &PackageReq) -> Result<Value, AllocError
         .into_json()
 }
 
-/// Parses a package.
-pub(crate) fn parse(
-    alloc: Global,
-    flavour: Flavour,
-    text: &str,
-) -> Result<PackageReq, PackageReqParseError>
-    ensures read { IfOk result (λ req. IsPackageOutcome flavour text.now (Ok req)) }
-    ensures rejected { IfErr result (IsPackageRejection flavour text.now) }
-    ensures answer { (outcome : Result PackageReq PackageFault)
-        → IsPackageOutcome flavour text.now outcome
-        → IsPackageAnswer flavour text.now outcome result }
-{
-    match flavour {
-        Flavour::Npm => PackageReq::from_str_loose(alloc, text),
-        Flavour::Normal => PackageReq::from_str_normalized(alloc, text),
-        Flavour::Specifier => PackageReq::from_str(alloc, text),
-    }
-}
-
 /// What is wrong with the text of a package.
 pub(crate) fn parts_failure(alloc: Global, error: PackageReqPartsParseError) -> ParseFailure
     ensures { (result ≡ None) ⊎ (result ≡ parts_failure error) }
@@ -95,7 +76,7 @@ pub fn read_package(alloc: Global, flavour: Flavour, text: &str) -> Result<Packa
     ensures { IsAnswer (IsPackage flavour text.now) (λ req. req) result }
 {
     texts_are_rejected_for_one_reason();
-    match parse(alloc, flavour, text) {
+    match PackageReq::parse(alloc, text, flavour) {
         Ok(req) => Ok(req),
         Err(error) => {
             let failure = parts_failure(alloc, error.source);
@@ -198,7 +179,7 @@ pub fn package_errors(
 ) -> Result<PackageErrors, AllocError>
     ensures { IfOk result (ArePackageErrors flavour text.now) }
 {
-    match parse(alloc, flavour, text) {
+    match PackageReq::parse(alloc, text, flavour) {
         Ok(_req) => range_errors(alloc, flavour, 0, text),
         Err(error) => {
             let place = fault_place(text, &error.source);

@@ -7,7 +7,7 @@ ghost use Rattle.deno_semver.specs.DependencyOutcome.{DependencyFault, IsDepende
 ghost use Rattle.deno_semver.specs.declared.jsr.dependency.JsrDepPackageReq.{JsrDepPackageReq};
 ghost use Rattle.deno_semver.specs.declared.package.values.PackageKind.TheVariants as kind;
 
-use crate::package::{PackageKind, PackageReq, PackageReqParseError, package_req};
+use crate::package::{PackageKind, PackageReq, PackageReqParseError};
 use semver_base::string::{StackString, StringAppendable, displayed};
 use semver_req::common::values::Flavour;
 use std::alloc::{AllocError, Global};
@@ -99,7 +99,7 @@ fn read(
             Err(_) => Err(JsrDepPackageReqParseError::Memory),
         };
     };
-    match package_req(alloc, body, flavour) {
+    match PackageReq::parse(alloc, body, flavour) {
         Ok(req) => Ok(JsrDepPackageReq { kind, req }),
         Err(error) => Err(JsrDepPackageReqParseError::from(error)),
     }

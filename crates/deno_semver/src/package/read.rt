@@ -96,45 +96,6 @@ fn read(
     Err(version_error(Flavour::Specifier, source))
 }
 
-/// Parses a package requirement, with the grammar of a flavour for its version.
-pub(crate) fn package_req(
-    alloc: Global,
-    text: &str,
-    flavour: Flavour,
-) -> Result<PackageReq, PackageReqParseError>
-    ensures read { IfOk result (λ req. IsPackageOutcome flavour text.now (Ok req)) }
-    ensures rejected { IfErr result (IsPackageRejection flavour text.now) }
-    ensures answer { (outcome : Result PackageReq PackageFault)
-        → IsPackageOutcome flavour text.now outcome
-        → IsPackageAnswer flavour text.now outcome result }
-{
-    texts_have_one_outcome();
-    let source = match read(alloc, text, flavour) {
-        Ok(req) => return Ok(req),
-        Err(source) => source,
-    };
-    if source.is_memory() {
-        drop(source);
-        return Err(PackageReqParseError::memory(alloc));
-    }
-    let Ok(whole) = StackString::from_str(alloc, text) else {
-        drop(source);
-        return Err(PackageReqParseError::memory(alloc));
-    };
-    // A text that contains a `/` lacks the `@` at its beginning, which goes before any other fault.
-    if text.as_bytes().contains(&b'/') && !starts_with_at(text) {
-        drop(source);
-        return Err(PackageReqParseError {
-            text: whole,
-            source: PackageReqPartsParseError::MissingAtSymbol,
-        });
-    }
-    Err(PackageReqParseError {
-        text: whole,
-        source,
-    })
-}
-
 /// The name, `@`, and the version requirement's canonical form. Fails only out of memory.
 pub(crate) fn normal_req_text(alloc: Global, req: &PackageReq) -> Result<String, AllocError>
     ensures { IfOk result (λ text. string_bytes text ≡ normal_req_text req.now) }
@@ -144,6 +105,46 @@ pub(crate) fn normal_req_text(alloc: Global, req: &PackageReq) -> Result<String,
 }
 
 impl PackageReq {
+    /// Parses a package requirement by [`PackageReq::from_str`], `from_str_loose` or `from_str_normalized`, whichever has this grammar for
+    /// the version.
+    pub fn parse(
+        alloc: Global,
+        text: &str,
+        flavour: Flavour,
+    ) -> Result<PackageReq, PackageReqParseError>
+        ensures read { IfOk result (λ req. IsPackageOutcome flavour text.now (Ok req)) }
+        ensures rejected { IfErr result (IsPackageRejection flavour text.now) }
+        ensures answer { (outcome : Result PackageReq PackageFault)
+            → IsPackageOutcome flavour text.now outcome
+            → IsPackageAnswer flavour text.now outcome result }
+    {
+        texts_have_one_outcome();
+        let source = match read(alloc, text, flavour) {
+            Ok(req) => return Ok(req),
+            Err(source) => source,
+        };
+        if source.is_memory() {
+            drop(source);
+            return Err(PackageReqParseError::memory(alloc));
+        }
+        let Ok(whole) = StackString::from_str(alloc, text) else {
+            drop(source);
+            return Err(PackageReqParseError::memory(alloc));
+        };
+        // A text that contains a `/` lacks the `@` at its beginning, which goes before any other fault.
+        if text.as_bytes().contains(&b'/') && !starts_with_at(text) {
+            drop(source);
+            return Err(PackageReqParseError {
+                text: whole,
+                source: PackageReqPartsParseError::MissingAtSymbol,
+            });
+        }
+        Err(PackageReqParseError {
+            text: whole,
+            source,
+        })
+    }
+
     /// Parses a package requirement such as `@scope/name@^1.2`, with the strict grammar for the version
     /// ([`VersionReq::parse_from_specifier`], which lists its errors).
     ///
@@ -163,7 +164,7 @@ impl PackageReq {
             → IsPackageOutcome Specifier text.now outcome
             → IsPackageAnswer Specifier text.now outcome result }
     {
-        package_req(alloc, text, Flavour::Specifier)
+        PackageReq::parse(alloc, text, Flavour::Specifier)
     }
 
     /// Parses like [`PackageReq::from_str`], but with npm's grammar for the version ([`VersionReq::parse_from_npm`]), whose
@@ -175,7 +176,7 @@ impl PackageReq {
             → IsPackageOutcome Npm text.now outcome
             → IsPackageAnswer Npm text.now outcome result }
     {
-        package_req(alloc, text, Flavour::Npm)
+        PackageReq::parse(alloc, text, Flavour::Npm)
     }
 
     /// Parses like [`PackageReq::from_str`], but with the normalized grammar for the version
@@ -190,7 +191,7 @@ impl PackageReq {
             → IsPackageOutcome Normal text.now outcome
             → IsPackageAnswer Normal text.now outcome result }
     {
-        package_req(alloc, text, Flavour::Normal)
+        PackageReq::parse(alloc, text, Flavour::Normal)
     }
 
     /// Returns the name, `@`, and the version requirement's canonical form ([`VersionReq::to_string_normalized`], which says

@@ -4,17 +4,17 @@ use Rattle.deno_semver.proofs.Dependencies.{before_colon, package_answer, packag
 use Rattle.deno_semver.proofs.jsr.dependency.read.Goals.{in-Some-split_once, in-None}
 use Rattle.deno_semver.proofs.jsr.dependency.read.Goals as goal
 
-pub returns-in-Ok-package_req-clause-read : goal.returns-in-Ok-package_req-clause-read
-returns-in-Ok-package_req-clause-read c = is_dependency _ _ (search rules) c.in-Ok-package_req.ensures.read
+pub returns-in-Ok-parse-clause-read : goal.returns-in-Ok-parse-clause-read
+returns-in-Ok-parse-clause-read c = is_dependency _ _ (search rules) c.in-Ok-parse.ensures.read
 
-pub returns-in-Ok-package_req-clause-answer : goal.returns-in-Ok-package_req-clause-answer
-returns-in-Ok-package_req-clause-answer c = read_answer _ _ (search rules) c.in-Ok-package_req.req c.in-Ok-package_req.ensures.answer
+pub returns-in-Ok-parse-clause-answer : goal.returns-in-Ok-parse-clause-answer
+returns-in-Ok-parse-clause-answer c = read_answer _ _ (search rules) c.in-Ok-parse.req c.in-Ok-parse.ensures.answer
 
-pub returns-in-Err-package_req-clause-rejected : goal.returns-in-Err-package_req-clause-rejected
-returns-in-Err-package_req-clause-rejected c = package_rejected c.match-after_scheme.kind.0 c.match-after_scheme.kind.1.now (search rules) c.in-Err-package_req.ensures.rejected c.from.ensures
+pub returns-in-Err-parse-clause-rejected : goal.returns-in-Err-parse-clause-rejected
+returns-in-Err-parse-clause-rejected c = package_rejected c.match-after_scheme.kind.0 c.match-after_scheme.kind.1.now (search rules) c.in-Err-parse.ensures.rejected c.from.ensures
 
-pub returns-in-Err-package_req-clause-answer : goal.returns-in-Err-package_req-clause-answer
-returns-in-Err-package_req-clause-answer c = package_answer c.match-after_scheme.kind.0 c.match-after_scheme.kind.1.now (search rules) c.in-Err-package_req.ensures.answer c.from.ensures
+pub returns-in-Err-parse-clause-answer : goal.returns-in-Err-parse-clause-answer
+returns-in-Err-parse-clause-answer c = package_answer c.match-after_scheme.kind.0 c.match-after_scheme.kind.1.now (search rules) c.in-Err-parse.ensures.answer c.from.ensures
 
 pub returns-in-Ok-clause-rejected : goal.returns-in-Ok-clause-rejected
 returns-in-Ok-clause-rejected c =

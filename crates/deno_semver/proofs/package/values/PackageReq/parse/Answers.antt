@@ -2,8 +2,8 @@ use Rattle.std.proofs.Common.{◌≡◌, true, false, inr, refl, rules}
 use Rattle.deno_semver.specs.PackageOutcome.{is_package}
 use Rattle.deno_semver.specs.PackageText.{lacks_at}
 use Rattle.deno_semver.proofs.PackageFaults.{read_answer, rejected, rejected_answer}
-use Rattle.deno_semver.proofs.package.read.package_req.Goals.{else-contains-via-then-contains+else-not-starts_with_at, else-contains-via-else-contains}
-use Rattle.deno_semver.proofs.package.read.package_req.Goals as goal
+use Rattle.deno_semver.proofs.package.values.PackageReq.parse.Goals.{else-contains-via-then-contains+else-not-starts_with_at, else-contains-via-else-contains}
+use Rattle.deno_semver.proofs.package.values.PackageReq.parse.Goals as goal
 
 pub returns-in-Ok-clause-read : goal.returns-in-Ok-clause-read
 returns-in-Ok-clause-read c = is_package c.in-Ok.ensures
