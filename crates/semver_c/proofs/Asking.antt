@@ -6,7 +6,7 @@ use Rattle.semver_req.specs.declared.common.values.Flavour.{Flavour}
 use Rattle.semver_req.specs.declared.common.values.Flavour.TheVariants.{Npm, Normal, Specifier}
 use Rattle.semver_req.specs.Viable.{IsErrorPlace, IsVersionText}
 use Rattle.answers.specs.AskingLaws.{answered, by_fault, by_value, fault_as_fault, fault_no_value, out_of_memory, same_fault, same_value, value_no_fault}
-use Rattle.answers.specs.Asking.{Fault, Given, Is, IsAnswer, IsOutcomeOf, OutOfMemory, fault_of, invalid, outcome_of, valid}
+use Rattle.answers.specs.Asking.{Fault, Given, Is, IsAnswer, IsOutcomeOf, OutOfMemory, fault_of, invalid, valid}
 use Rattle.answers.specs.declared.asking.Problem.{Problem as Unanswered}
 use Rattle.answers.specs.declared.asking.Problem.TheVariants as unanswered
 use Rattle.semver_c.specs.Arguments.{CallFault, Called, IsArgument, IsCallAnswer, IsGrammar, IsOnly, IsSubject, IsUtf8Text, NoGrammar, NotUtf8, call_fault, called, called_outcome, grammar, grammar_number, memory, no_grammar, no_subject, no_text, call_outcome, subject, subject_number, text}

@@ -479,7 +479,8 @@ pub fn canonical_held(alloc: Global, range: Option<&VersionReq>) -> Result<Strin
 
 /// How is the version displayed?
 pub fn displayed_held(alloc: Global, version: Option<&Version>) -> Result<String, Problem>
-    ensures { IsCallOutcome (of_one version_text (option_copied version.entry)) string_bytes result }
+    ensures { IsCallOutcome (of_one version_text (option_copied version.entry))
+        string_bytes result }
 {
     match version {
         Some(version) => text_of_version(alloc, version).map_err(Problem::from),
