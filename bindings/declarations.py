@@ -24,10 +24,9 @@ EXPORT = re.compile(r'^pub extern "C" fn (\w+)\(([^)]*)\)(?: -> (\w+))?', re.M)
 PATTERNS = {
     HEADER: re.compile(r"^\w+ (semver_\w+)\([^;]*;", re.M),
     PYTHON: re.compile(r'^    "(\w+)": .*', re.M),
-    RUST: re.compile(r"^    pub\(crate\) fn (\w+)\([^;]*;", re.M),
+    RUST: re.compile(r"^    fn (\w+)\([^;]*;", re.M),
     WASM: re.compile(r"^EXPORT\(\w+, (\w+)\)[^}]*\}", re.M),
 }
-WIDTH = 130
 
 
 @dataclass(frozen=True)
@@ -42,32 +41,37 @@ class Kind:
     passed: Optional[str] = None
 
 
-def handle(c, passed=None):
+def handle(c, rust, passed=None):
     """The kinds of a handle that is only asked, and of one that is written."""
-    asked = Kind(f"const {c} *{{0}}", "HANDLE", "{0}: *const Raw", "address {0}", passed)
-    return asked, Kind(f"{c} *{{0}}", "HANDLE", "{0}: *mut Raw")
+    asked = Kind(f"const {c} *{{0}}", "HANDLE", f"{{0}}: &{rust}", "address {0}", passed)
+    return asked, Kind(f"{c} *{{0}}", "HANDLE", f"{{0}}: &mut {rust}")
 
 
 # The kinds by the types of lib.rt.
 KINDS = {
     "u32": Kind("uint32_t {0}", "c_uint32", "{0}: u32", "uint32_t {0}", "{0}"),
     "u64": Kind("uint64_t {0}", "c_uint64", "{0}: u64"),
-    "&[u8]": Kind("const char *{0}, size_t {0}_len", "*TEXT", "{0}: *const u8, {0}_len: usize", "uint32_t {0}_len", "TEXT({1}, {0}_len)"),
-    "&mut [u8]": Kind("char *{0}, size_t {0}_len", "*TEXT", "{0}: *mut u8, {0}_len: usize", passed="OUT"),
-    "&mut [i8]": Kind("int8_t *{0}, size_t {0}_len", "*ANSWERS", "{0}: *mut i8, {0}_len: usize", passed="ANSWERS"),
-    "&mut [u64]": Kind("uint64_t *{0}, size_t {0}_len", "*NUMBERS", "{0}: *mut u64, {0}_len: usize"),
-    "&mut [usize]": Kind("size_t *{0}, size_t {0}_len", "*PLACES", "{0}: *mut usize, {0}_len: usize"),
-    "&mut usize": Kind("size_t *{0}", "SIZE", "{0}: *mut usize", passed="&{0}"),
+    "&[u8]": Kind("const char *{0}, size_t {0}_len", "*TEXT", "{0}: &str", "uint32_t {0}_len", "TEXT({1}, {0}_len)"),
+    "&mut [u8]": Kind("char *{0}, size_t {0}_len", "*TEXT", "{0}: &mut [u8]", passed="OUT"),
+    "&mut [i8]": Kind("int8_t *{0}, size_t {0}_len", "*ANSWERS", "{0}: &mut [i8]", passed="ANSWERS"),
+    "&mut [u64]": Kind("uint64_t *{0}, size_t {0}_len", "*NUMBERS", "{0}: &mut [u64]"),
+    "&mut [usize]": Kind("size_t *{0}, size_t {0}_len", "*PLACES", "{0}: &mut [usize]"),
+    "&mut usize": Kind("size_t *{0}", "SIZE", "{0}: &mut usize", passed="&{0}"),
 }
 HANDLES = {
-    "&mut RequirementHandle": handle("semver_req", "RANGE({0})"),
-    "&mut VersionHandle": handle("semver_ver"),
-    "&mut VersionListHandle": handle("semver_list", "LIST({0})"),
+    "&mut RequirementHandle": handle("semver_req", "Requirement", "RANGE({0})"),
+    "&mut VersionHandle": handle("semver_ver", "VersionHandle"),
+    "&mut VersionListHandle": handle("semver_list", "Versions", "LIST({0})"),
 }
 # Results: C's, and that of ctypes.
 RESULTS = {"i32": ("int32_t", "c_int32"), "u32": ("uint32_t", "c_uint32"), "": ("void", "None")}
 # Exports of semver.wasm that no JavaScript asks for.
 LEFT_OUT = ("is_tag", "range_order", "ranges", "why")
+# Calls that no Rust asks for. rustc warns of others that nothing uses.
+NOT_IN_RUST = (
+    "api", "common", "compare", "explain", "export_name", "fits", "overlap", "package_read", "req_is_tag",
+    "req_normal", "req_text", "version_parts", "version_text", "why",
+)
 
 
 @dataclass(frozen=True)
@@ -91,14 +95,10 @@ class Call:
         types = [RESULTS[self.result][1], *(kind.ctypes for _, kind in self.parameters)]
         return f'    "{self.short}": ({", ".join(types)}{"," * (len(types) == 1)}),'
 
-    def extern(self):
-        """The function in Rust."""
+    def rust(self):
+        """The call in Rust."""
         parameters = ", ".join(kind.rust.format(name) for name, kind in self.parameters)
-        head, tail = f"    pub(crate) fn {self.name}(", f"){self.result and f' -> {self.result}'};"
-        if len(head + parameters + tail) <= WIDTH:
-            return head + parameters + tail
-        lines = "".join(f"        {it},\n" for it in parameters.split(", "))
-        return f"{head}\n{lines}    {tail}"
+        return f"    fn {self.name}({parameters}){self.result and f' -> {self.result}'};"
 
     def is_made(self):
         """Whether semver.wasm has an export for this call that isn't written by hand."""
@@ -175,28 +175,20 @@ HANDLE = POINTER(Handle)
 TABLE: Dict[str, Tuple[Any, ...]] = {{
 '''
 
-RUST_HEAD = f"""//! The C calls. {MADE}.
+RUST_HEAD = f"""//! The C calls as safe functions. {MADE}.
 
-use std::ffi::c_void;
+use crate::raw::{{calls, Requirement, VersionHandle, Versions}};
 
-/// A value that the library holds, or none.
-#[repr(C)]
-pub(crate) struct Raw {{
-    pub(crate) at: *mut c_void,
-}}
-
-#[allow(dead_code)]
-#[rustfmt::skip]
-extern "C" {{
+calls! {{
 """
 
 
 def made(exports):
     """The text of each file that is made."""
     rows = "".join(f"{it.row()}\n" for it in exports)
-    externs = "".join(f"{it.extern()}\n" for it in exports)
+    rust = "".join(f"{it.rust()}\n" for it in exports if it.short not in NOT_IN_RUST)
     wasm = "".join(f"\n{it.export()}\n" for it in exports if it.is_made())
-    return {PYTHON: f"{PYTHON_HEAD}{rows}}}\n", RUST: f"{RUST_HEAD}{externs}}}\n", WASM: f"/* {MADE}. */\n{wasm}"}
+    return {PYTHON: f"{PYTHON_HEAD}{rows}}}\n", RUST: f"{RUST_HEAD}{rust}}}\n", WASM: f"/* {MADE}. */\n{wasm}"}
 
 
 def declared(path, text):

@@ -1,9 +1,58 @@
 //! Why a text is invalid.
 
-use crate::calls::{self, Grammar};
+use crate::calls::{failed, Grammar, YES};
+use crate::externs::{semver_errors, semver_version_error};
 use crate::json;
-use std::error::Error;
-use std::fmt;
+
+/// How values are displayed.
+macro_rules! display {
+    ($($name:ty: |$it:ident, $f:ident| $display:expr;)*) => {$(
+        impl std::fmt::Display for $name {
+            fn fmt(&self, $f: &mut std::fmt::Formatter<'_>) -> std::fmt::Result {
+                #[allow(unused_variables)]
+                let $it = self;
+                $display
+            }
+        }
+    )*};
+}
+
+/// How errors are displayed, and what their sources are.
+macro_rules! errors {
+    ($($name:ty: |$it:ident, $f:ident| $display:expr $(, $source:expr)?;)*) => {$(
+        $crate::error::display!($name: |$it, $f| $display;);
+
+        impl std::error::Error for $name {
+            $(fn source(&self) -> Option<&(dyn std::error::Error + 'static)> {
+                let $it = self;
+                $source
+            })?
+        }
+    )*};
+}
+
+/// Defines an error that is displayed as a fixed line, and whose source is a [`ParseErrorFailureError`].
+macro_rules! parse_error {
+    ($(#[$doc:meta])* $name:ident, $line:literal) => {
+        $(#[$doc])*
+        #[derive(Clone, Debug, PartialEq, Eq)]
+        pub struct $name {
+            /// What is wrong with the text.
+            pub source: $crate::ParseErrorFailureError,
+        }
+
+        impl $name {
+            /// What is wrong, in one line.
+            pub fn message(&self) -> &str {
+                &self.source.message
+            }
+        }
+
+        $crate::error::errors!($name: |it, f| f.write_str($line), Some(&it.source););
+    };
+}
+
+pub(crate) use {display, errors, parse_error};
 
 /// Where a text is invalid, by indexes of its bytes, and what could be there.
 #[derive(Clone, Debug, PartialEq, Eq)]
@@ -65,53 +114,21 @@ impl ParseErrorFailureError {
     /// ```
     pub fn place(&self) -> Option<Place> {
         match self.parsed.as_ref()? {
-            Parsed::Range(grammar, text) => json::first_error(&calls::errors(*grammar, text)),
-            Parsed::Version(text) => Some(Place { start: calls::version_error(text), end: text.len(), expected: Vec::new() }),
+            Parsed::Range(grammar, text) => json::first_error(|out, needed| semver_errors(*grammar as u32, text, out, needed)),
+            Parsed::Version(text) => {
+                let mut start = 0;
+                match semver_version_error(text, &mut start) {
+                    YES => Some(Place { start, end: text.len(), expected: Vec::new() }),
+                    code => failed(code),
+                }
+            }
         }
     }
 }
 
-impl fmt::Display for ParseErrorFailureError {
-    fn fmt(&self, f: &mut fmt::Formatter<'_>) -> fmt::Result {
-        f.write_str(&self.message)?;
-        match &self.code_snippet {
-            Some(snippet) => write!(f, "\n  {snippet}\n  ~"),
-            None => Ok(()),
-        }
-    }
-}
-
-impl Error for ParseErrorFailureError {}
-
-/// Defines an error that is displayed as a fixed line, and whose source is a [`ParseErrorFailureError`].
-macro_rules! parse_error {
-    ($(#[$doc:meta])* $name:ident, $line:literal) => {
-        $(#[$doc])*
-        #[derive(Clone, Debug, PartialEq, Eq)]
-        pub struct $name {
-            /// What is wrong with the text.
-            pub source: $crate::ParseErrorFailureError,
-        }
-
-        impl $name {
-            /// What is wrong, in one line.
-            pub fn message(&self) -> &str {
-                &self.source.message
-            }
-        }
-
-        impl std::fmt::Display for $name {
-            fn fmt(&self, f: &mut std::fmt::Formatter<'_>) -> std::fmt::Result {
-                f.write_str($line)
-            }
-        }
-
-        impl std::error::Error for $name {
-            fn source(&self) -> Option<&(dyn std::error::Error + 'static)> {
-                Some(&self.source)
-            }
-        }
+errors! {
+    ParseErrorFailureError: |it, f| match &it.code_snippet {
+        Some(snippet) => write!(f, "{}\n  {snippet}\n  ~", it.message),
+        None => f.write_str(&it.message),
     };
 }
-
-pub(crate) use parse_error;

@@ -1,5 +1,6 @@
 //! The JSON of the C API, which has no whitespace between its parts.
 
+use crate::calls::with_text;
 use crate::error::Place;
 use crate::range::{RangeBound, VersionBoundKind, VersionRange, VersionRangeSet};
 use crate::version::Version;
@@ -28,18 +29,18 @@ fn bound(value: &str) -> RangeBound {
     RangeBound::version(kind, Version::parse_standard(version).expect(SHAPE))
 }
 
-/// The first of the errors of a range, each with the members "end", "expected", "message" and "start"; none of an empty array.
-pub(crate) fn first_error(json: &str) -> Option<Place> {
-    let members = json.strip_prefix("[{\"end\":")?;
+/// The first of the errors that a call writes, each with the members "end", "expected", "message" and "start"; none of an empty array.
+pub(crate) fn first_error(call: impl FnMut(&mut [u8], &mut usize) -> i32) -> Option<Place> {
+    with_text(call, |_, json| json.strip_prefix("[{\"end\":").map(place))
+}
+
+fn place(members: &str) -> Place {
     let (end, rest) = members.split_once(",\"expected\":[").expect(SHAPE);
     let (expected, rest) = rest.split_once("],\"message\":").expect(SHAPE);
     let (_, rest) = rest.split_once(",\"start\":").expect(SHAPE);
     let (start, _) = rest.split_once('}').expect(SHAPE);
     let index = |digits: &str| digits.parse().expect(SHAPE);
-    Some(Place { start: index(start), end: index(end), expected: texts(expected) })
-}
-
-// Texts between quotes, which have no character that is escaped.
-fn texts(items: &str) -> Vec<String> {
-    items.split('"').skip(1).step_by(2).map(str::to_owned).collect()
+    // Texts between quotes, which have no character that is escaped.
+    let expected = expected.split('"').skip(1).step_by(2).map(str::to_owned).collect();
+    Place { start: index(start), end: index(end), expected }
 }

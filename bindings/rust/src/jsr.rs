@@ -1,10 +1,10 @@
 //! References to JSR packages, and the dependencies of one.
 
+use crate::error::{display, errors};
+use crate::own::export_name;
 use crate::package::{references, PackageKind, PackageReq, PackageReqParseError};
 use crate::string::StackString;
 use std::borrow::Cow;
-use std::error::Error;
-use std::fmt;
 
 references!(
     /// A reference to a JSR package, such as `jsr:@scope/name@^1.2/mod.ts`.
@@ -17,27 +17,20 @@ references!(
 impl JsrPackageReqReference {
     /// The name of the export that the path means.
     pub fn export_name(&self) -> Cow<'_, str> {
-        normalized_export_name(self.sub_path())
+        export_name(self.sub_path())
     }
 }
 
 impl JsrPackageNvReference {
     /// The name of the export that the path means.
     pub fn export_name(&self) -> Cow<'_, str> {
-        normalized_export_name(self.sub_path())
+        export_name(self.sub_path())
     }
 }
 
 /// The name of the export that a path in a JSR package means, such as `./mod.ts`; without a path, `.`.
 pub fn normalized_export_name(sub_path: Option<&str>) -> Cow<'_, str> {
-    let path = match sub_path {
-        None | Some("" | "/" | ".") => return Cow::Borrowed("."),
-        Some(path) => path.strip_suffix('/').unwrap_or(path),
-    };
-    if path.starts_with("./") {
-        return Cow::Borrowed(path);
-    }
-    Cow::Owned(["./", path.strip_prefix('/').unwrap_or(path)].concat())
+    export_name(sub_path)
 }
 
 /// A dependency of a JSR package: a package of JSR or npm with a requirement, such as `npm:name@1`.
@@ -95,10 +88,8 @@ impl JsrDepPackageReq {
     }
 }
 
-impl fmt::Display for JsrDepPackageReq {
-    fn fmt(&self, f: &mut fmt::Formatter<'_>) -> fmt::Result {
-        write!(f, "{}{}", self.kind.scheme_with_colon(), self.req)
-    }
+display! {
+    JsrDepPackageReq: |it, f| write!(f, "{}{}", it.kind.scheme_with_colon(), it.req);
 }
 
 /// Why a text isn't a dependency.
@@ -110,22 +101,14 @@ pub enum JsrDepPackageReqParseError {
     PackageReqParse(PackageReqParseError),
 }
 
-impl fmt::Display for JsrDepPackageReqParseError {
-    fn fmt(&self, f: &mut fmt::Formatter<'_>) -> fmt::Result {
-        match self {
-            Self::NotExpectedScheme(scheme) => write!(f, "A dependency begins with 'npm:' or 'jsr:', and not with '{scheme}'"),
-            Self::PackageReqParse(error) => error.fmt(f),
-        }
-    }
-}
-
-impl Error for JsrDepPackageReqParseError {
-    fn source(&self) -> Option<&(dyn Error + 'static)> {
-        match self {
-            Self::NotExpectedScheme(_) => None,
-            Self::PackageReqParse(error) => error.source(),
-        }
-    }
+errors! {
+    JsrDepPackageReqParseError: |it, f| match it {
+        Self::NotExpectedScheme(scheme) => write!(f, "A dependency begins with 'npm:' or 'jsr:', and not with '{scheme}'"),
+        Self::PackageReqParse(error) => error.fmt(f),
+    }, match it {
+        Self::NotExpectedScheme(_) => None,
+        Self::PackageReqParse(error) => error.source(),
+    };
 }
 
 impl From<PackageReqParseError> for JsrDepPackageReqParseError {

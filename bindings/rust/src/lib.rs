@@ -16,16 +16,16 @@
 mod calls;
 mod error;
 mod externs;
-mod handle;
 mod json;
 pub mod jsr;
-mod lazy;
 pub mod lists;
 pub mod lowest;
 pub mod npm;
+mod own;
 pub mod package;
 mod partial;
 mod range;
+mod raw;
 #[cfg(feature = "serde")]
 mod serde;
 mod string;
@@ -40,8 +40,6 @@ pub use string::{SmallStackString, StackString};
 pub use version::{Version, VersionParseError, VersionParts, VersionPreOrBuild};
 pub use version_req::{VersionReq, VersionReqNormalizedParseError, VersionReqSpecifierParseError};
 
-use std::error::Error;
-use std::fmt;
 use std::sync::LazyLock;
 
 /// A list of identifiers or ranges.
@@ -60,19 +58,9 @@ pub struct InvalidRange {
     pub message: String,
 }
 
-impl From<calls::Invalid> for InvalidRange {
-    fn from(invalid: calls::Invalid) -> InvalidRange {
-        InvalidRange { place: invalid.place, message: invalid.message }
-    }
+error::errors! {
+    InvalidRange: |it, f| write!(f, "Invalid range {}: {}", it.place + 1, it.message);
 }
-
-impl fmt::Display for InvalidRange {
-    fn fmt(&self, f: &mut fmt::Formatter<'_>) -> fmt::Result {
-        write!(f, "Invalid range {}: {}", self.place + 1, self.message)
-    }
-}
-
-impl Error for InvalidRange {}
 
 /// The examples of the README.
 #[cfg(doctest)]

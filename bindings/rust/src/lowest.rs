@@ -2,31 +2,60 @@
 //!
 //! The time of these calls grows with the square of the number of alternatives; limit the length of ranges that strangers write.
 
-pub use crate::calls::Lowest;
+use crate::calls::{answer, failed, message, text_or_message, with_text, INVALID_RANGE, NO, TAG, YES};
+use crate::externs::*;
+use crate::{Grammar, InvalidRange, PreRelease};
 
-use crate::{calls, Grammar, InvalidRange, PreRelease};
+/// The lowest version with some property.
+#[derive(Clone, Debug, PartialEq, Eq)]
+pub enum Lowest {
+    /// No version has it.
+    Nothing,
+    /// The version, as displayed.
+    Version(String),
+    /// A range is a tag.
+    Tag,
+}
+
+// What a call found: `found` is the code that comes with a version.
+fn lowest(found: i32, mut call: impl FnMut(&mut [u8], &mut usize, &mut usize) -> i32) -> Result<Lowest, InvalidRange> {
+    let mut place = 0;
+    let (code, text) = with_text(|out, needed| call(out, needed, &mut place), |code, text| (code, text.to_owned()));
+    match code {
+        TAG => Ok(Lowest::Tag),
+        INVALID_RANGE => Err(InvalidRange { place, message: text }),
+        NO | YES if code == found => Ok(Lowest::Version(text)),
+        NO | YES => Ok(Lowest::Nothing),
+        _ => failed(code),
+    }
+}
 
 /// The lowest version that the range matches.
 pub fn min_version(grammar: Grammar, range: &str, pre_release: PreRelease) -> Result<Lowest, InvalidRange> {
-    calls::min_version(grammar, range, pre_release).map_err(InvalidRange::from)
+    lowest(YES, |out, needed, _| semver_min_version(grammar as u32, range, pre_release as u32, out, needed))
 }
 
 /// The lowest version that all ranges match, one per line.
 pub fn common_version(grammar: Grammar, ranges: &str, pre_release: PreRelease) -> Result<Lowest, InvalidRange> {
-    calls::common(grammar, ranges, pre_release).map_err(InvalidRange::from)
+    lowest(YES, |out, needed, place| semver_common_all(grammar as u32, ranges, pre_release as u32, out, needed, place))
 }
 
 /// The lowest version that the first range matches and the other doesn't; none if the other contains the first.
 pub fn outside(grammar: Grammar, one: &str, other: &str, pre_release: PreRelease) -> Result<Lowest, InvalidRange> {
-    calls::outside(grammar, one, other, pre_release).map_err(InvalidRange::from)
+    lowest(NO, |out, needed, place| semver_within(grammar as u32, one, other, pre_release as u32, out, needed, place))
 }
 
 /// Whether both ranges match the same versions; none if one is a tag.
 pub fn equivalent(grammar: Grammar, one: &str, other: &str, pre_release: PreRelease) -> Result<Option<bool>, InvalidRange> {
-    calls::equivalent(grammar, one, other, pre_release).map_err(InvalidRange::from)
+    let mut place = 0;
+    match semver_equivalent(grammar as u32, one, other, pre_release as u32, &mut place) {
+        INVALID_RANGE => Err(InvalidRange { place, message: message(grammar, if place == 0 { one } else { other }) }),
+        code => Ok(answer(code)),
+    }
 }
 
 /// The canonical form of the range, or the tag.
 pub fn normal(grammar: Grammar, range: &str) -> Result<String, InvalidRange> {
-    calls::normal(grammar, range).map_err(|message| InvalidRange::from(calls::Invalid { place: 0, message }))
+    text_or_message(|out, needed| semver_normal(grammar as u32, range, out, needed))
+        .map_err(|message| InvalidRange { place: 0, message })
 }

@@ -1,7 +1,8 @@
 //! npm's grammars, and references to npm packages.
 
-use crate::calls::may_be_tag;
+use crate::calls::YES;
 use crate::error::parse_error;
+use crate::externs::semver_may_be_tag;
 use crate::package::references;
 use crate::version::Version;
 use crate::version_req::VersionReq;
@@ -18,7 +19,7 @@ pub fn parse_npm_version_req(text: &str) -> Result<VersionReq, NpmVersionReqPars
 
 /// Whether the text can be a tag, by npm's rules.
 pub fn is_valid_npm_tag(value: &str) -> bool {
-    may_be_tag(value)
+    semver_may_be_tag(value) == YES
 }
 
 parse_error!(

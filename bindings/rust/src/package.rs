@@ -3,15 +3,17 @@
 //! The name and the path are split off here, in Rust; the requirement and the version are parsed by the proved library, whose own calls
 //! for whole packages ([`json`]) give the same parts as JSON.
 
-use crate::calls::{self, Grammar};
-use crate::error::{ParseErrorFailureError, Place};
+use crate::calls::Grammar;
+use crate::error::{display, errors, ParseErrorFailureError, Place};
+use crate::externs::{semver_package_errors, semver_reference_errors};
+use crate::json::first_error;
 use crate::npm::NpmVersionReqParseError;
+use crate::own::{self, PackageParts};
 use crate::string::{SmallStackString, StackString};
 use crate::version::Version;
 use crate::version_req::{VersionReq, VersionReqNormalizedParseError, VersionReqSpecifierParseError};
 use crate::WILDCARD_VERSION_REQ;
 use std::cmp::Ordering;
-use std::error::Error;
 use std::fmt;
 
 /// The name of a package, its scope included.
@@ -51,32 +53,6 @@ pub struct PackageReq {
     pub version_req: VersionReq,
 }
 
-/// The parts of a package with a requirement: a name, an optional requirement behind `@`, and a path behind `/`.
-struct Parts<'a> {
-    name: &'a str,
-    requirement: Option<&'a str>,
-    path: &'a str,
-}
-
-impl Parts<'_> {
-    fn of(text: &str) -> Result<Parts<'_>, PackageReqPartsParseError> {
-        let text = text.strip_prefix('/').unwrap_or(text);
-        let scope = match text.starts_with('@') {
-            true => text.find('/').ok_or(PackageReqPartsParseError::InvalidPackageName)? + 1,
-            false => 0,
-        };
-        let (last, path) = text[scope..].split_once('/').unwrap_or((&text[scope..], ""));
-        match (last.rsplit_once('@'), scope) {
-            _ if last.is_empty() && scope > 0 => Err(PackageReqPartsParseError::InvalidPackageName),
-            _ if last.is_empty() => Err(PackageReqPartsParseError::NoPackageName),
-            (Some((name, requirement)), _) => {
-                Ok(Parts { name: &text[..scope + name.len()], requirement: Some(requirement), path })
-            }
-            (None, _) => Ok(Parts { name: &text[..scope + last.len()], requirement: None, path }),
-        }
-    }
-}
-
 impl PackageReq {
     /// Parses a package with a requirement of the strict grammar.
     #[allow(clippy::should_implement_trait)]
@@ -105,29 +81,19 @@ impl PackageReq {
     }
 
     fn parse_with_path(grammar: Grammar, text: &str) -> Result<(PackageReq, &str), PackageReqPartsParseError> {
-        let parts = Parts::of(text)?;
-        let version_req = match parts.requirement {
+        let PackageParts { name, requirement, path } = own::package_parts(text)?;
+        let version_req = match requirement {
             Some(text) => {
                 VersionReq::parse(grammar, text).map_err(|source| PackageReqPartsParseError::requirement(grammar, source))?
             }
             None => WILDCARD_VERSION_REQ.clone(),
         };
-        Ok((PackageReq { name: parts.name.into(), version_req }, parts.path))
+        Ok((PackageReq { name: name.into(), version_req }, path))
     }
 
     /// `name@requirement`, with the canonical form of the requirement, as it is stored.
     pub fn to_string_normalized(&self) -> StackString {
         StackString::concat(&[&self.name, "@", self.version_req.normalized()])
-    }
-}
-
-// `name@requirement`, or the name alone if the requirement is `*`.
-impl fmt::Display for PackageReq {
-    fn fmt(&self, f: &mut fmt::Formatter<'_>) -> fmt::Result {
-        match self.version_req.version_text() {
-            "*" => f.write_str(&self.name),
-            text => write!(f, "{}@{text}", self.name),
-        }
     }
 }
 
@@ -175,19 +141,6 @@ impl PackageReqReference {
     }
 }
 
-impl fmt::Display for PackageReqReference {
-    fn fmt(&self, f: &mut fmt::Formatter<'_>) -> fmt::Result {
-        write_with_path(&self.req, &self.sub_path, f)
-    }
-}
-
-fn write_with_path(package: &impl fmt::Display, path: &Option<PackageSubPath>, f: &mut fmt::Formatter<'_>) -> fmt::Result {
-    match path {
-        Some(path) => write!(f, "{package}/{path}"),
-        None => package.fmt(f),
-    }
-}
-
 /// A package with a version. The name includes the scope.
 #[derive(Clone, PartialEq, Eq, PartialOrd, Ord, Hash)]
 pub struct PackageNv {
@@ -197,42 +150,25 @@ pub struct PackageNv {
     pub version: Version,
 }
 
-/// The parts of a package with a version: a name, a version up to `/` or `_`, and what follows.
-struct VersionParts<'a> {
-    name: &'a str,
-    version: &'a str,
-    rest: &'a str,
-}
-
-impl VersionParts<'_> {
-    fn of(text: &str) -> Option<VersionParts<'_>> {
-        let after_first = text.chars().next()?.len_utf8();
-        let at = after_first + text[after_first..].find('@')?;
-        let version = &text[at + 1..];
-        let end = version.find(['/', '_']).unwrap_or(version.len());
-        Some(VersionParts { name: &text[..at], version: &version[..end], rest: &version[end..] })
-    }
-}
-
 impl PackageNv {
     /// Parses a package with a version, such as `@scope/name@1.2.3`.
     #[allow(clippy::should_implement_trait)]
     pub fn from_str(text: &str) -> Result<PackageNv, PackageNvParseError> {
         match PackageNv::parse(text) {
             Some((nv, "")) => Ok(nv),
-            _ => Err(PackageNvParseError { message: message(calls::name_with_version(text)), text: text.to_owned() }),
+            _ => Err(PackageNvParseError { message: message(json::name_with_version(text)), text: text.to_owned() }),
         }
     }
 
     fn parse(text: &str) -> Option<(PackageNv, &str)> {
-        let VersionParts { name, version, rest } = VersionParts::of(text)?;
+        let (name, version, rest) = own::name_with_version(text)?;
         let version = Version::parse_valid(version)?;
         Some((PackageNv { name: name.into(), version }, rest))
     }
 
     /// The scope with its `@`, if the name has one.
     pub fn scope(&self) -> Option<&str> {
-        self.name.starts_with('@').then(|| self.name.split_once('/').map_or(self.name.as_str(), |(scope, _)| scope))
+        own::scope(&self.name)
     }
 
     /// The package with the requirement that matches this version alone.
@@ -244,12 +180,6 @@ impl PackageNv {
 // The message of the library for a text that it rejects.
 fn message(parts: Result<String, String>) -> String {
     parts.err().unwrap_or_else(|| "Unexpected character.".to_owned())
-}
-
-impl fmt::Display for PackageNv {
-    fn fmt(&self, f: &mut fmt::Formatter<'_>) -> fmt::Result {
-        write!(f, "{}@{}", self.name, self.version)
-    }
 }
 
 impl fmt::Debug for PackageNv {
@@ -270,7 +200,7 @@ pub struct PackageNvReference {
 impl PackageNvReference {
     pub(crate) fn parse(specifier: &str, kind: PackageKind) -> Result<PackageNvReference, PackageNvReferenceParseError> {
         PackageNvReference::parse_parts(specifier, kind).ok_or_else(|| {
-            let message = message(calls::version_reference(specifier));
+            let message = message(json::version_reference(specifier));
             PackageNvReferenceParseError { message, text: specifier.to_owned() }
         })
     }
@@ -292,40 +222,53 @@ impl PackageNvReference {
     }
 }
 
-impl fmt::Display for PackageNvReference {
-    fn fmt(&self, f: &mut fmt::Formatter<'_>) -> fmt::Result {
-        write_with_path(&self.nv, &self.sub_path, f)
+display! {
+    // Without the requirement `*`.
+    PackageReq: |it, f| match it.version_req.version_text() {
+        "*" => f.write_str(&it.name),
+        text => write!(f, "{}@{text}", it.name),
+    };
+    PackageReqReference: |it, f| write_with_path(&it.req, &it.sub_path, f);
+    PackageNv: |it, f| write!(f, "{}@{}", it.name, it.version);
+    PackageNvReference: |it, f| write_with_path(&it.nv, &it.sub_path, f);
+}
+
+fn write_with_path(package: &impl fmt::Display, path: &Option<PackageSubPath>, f: &mut fmt::Formatter<'_>) -> fmt::Result {
+    match path {
+        Some(path) => write!(f, "{package}/{path}"),
+        None => package.fmt(f),
     }
 }
 
 /// The proved calls for whole packages, which return the parts as JSON or an error message. They are slower than the types.
 pub mod json {
-    use crate::calls;
+    use crate::calls::text_or_message;
+    use crate::externs::*;
     use crate::Grammar;
 
     /// A package with a requirement: "name", "normal", "requirement", "scope".
     pub fn package(grammar: Grammar, text: &str) -> Result<String, String> {
-        calls::package(grammar, text)
+        text_or_message(|out, needed| semver_package(grammar as u32, text, out, needed))
     }
 
     /// A reference to a package: "export", "kind", "package", "path".
     pub fn reference(text: &str) -> Result<String, String> {
-        calls::reference(text)
+        text_or_message(|out, needed| semver_reference(text, out, needed))
     }
 
     /// A package with a version: "name", "scope", "version".
     pub fn name_with_version(text: &str) -> Result<String, String> {
-        calls::name_with_version(text)
+        text_or_message(|out, needed| semver_name_with_version(text, out, needed))
     }
 
     /// A reference to one version of a package: "export", "kind", "package", "path".
     pub fn version_reference(text: &str) -> Result<String, String> {
-        calls::version_reference(text)
+        text_or_message(|out, needed| semver_version_reference(text, out, needed))
     }
 
     /// A dependency: "kind", "normal", "package".
     pub fn dependency(grammar: Grammar, text: &str) -> Result<String, String> {
-        calls::dependency(grammar, text)
+        text_or_message(|out, needed| semver_dependency(grammar as u32, text, out, needed))
     }
 }
 
@@ -373,28 +316,6 @@ impl PackageReqPartsParseError {
     }
 }
 
-impl fmt::Display for PackageReqPartsParseError {
-    fn fmt(&self, f: &mut fmt::Formatter<'_>) -> fmt::Result {
-        match self {
-            Self::SpecifierVersionReq(error) => error.fmt(f),
-            Self::NpmVersionReq(error) => error.fmt(f),
-            Self::NormalizedVersionReq(error) => error.fmt(f),
-            _ => f.write_str(self.message()),
-        }
-    }
-}
-
-impl Error for PackageReqPartsParseError {
-    fn source(&self) -> Option<&(dyn Error + 'static)> {
-        match self {
-            Self::SpecifierVersionReq(error) => error.source(),
-            Self::NpmVersionReq(error) => error.source(),
-            Self::NormalizedVersionReq(error) => error.source(),
-            _ => None,
-        }
-    }
-}
-
 /// Why a text isn't a package with a requirement.
 #[derive(Clone, Debug, PartialEq, Eq)]
 pub struct PackageReqParseError {
@@ -421,19 +342,7 @@ impl PackageReqParseError {
     /// assert_eq!((place.start, place.expected), (6, vec!["/".to_string()]));
     /// ```
     pub fn place(&self) -> Option<Place> {
-        crate::json::first_error(&calls::package_errors(self.grammar, &self.text))
-    }
-}
-
-impl fmt::Display for PackageReqParseError {
-    fn fmt(&self, f: &mut fmt::Formatter<'_>) -> fmt::Result {
-        write!(f, "Invalid package requirement '{}'", self.text)
-    }
-}
-
-impl Error for PackageReqParseError {
-    fn source(&self) -> Option<&(dyn Error + 'static)> {
-        Some(&self.source)
+        first_error(|out, needed| semver_package_errors(self.grammar as u32, &self.text, out, needed))
     }
 }
 
@@ -448,25 +357,6 @@ pub enum PackageReqReferenceParseError {
     InvalidPathWithVersion(Box<PackageReqReferenceInvalidWithVersionParseError>),
 }
 
-impl fmt::Display for PackageReqReferenceParseError {
-    fn fmt(&self, f: &mut fmt::Formatter<'_>) -> fmt::Result {
-        match self {
-            Self::NotExpectedScheme(kind) => write!(f, "Not {} specifier", kind.scheme_with_colon()),
-            Self::Invalid(error) => error.fmt(f),
-            Self::InvalidPathWithVersion(error) => error.fmt(f),
-        }
-    }
-}
-
-impl Error for PackageReqReferenceParseError {
-    fn source(&self) -> Option<&(dyn Error + 'static)> {
-        match self {
-            Self::Invalid(error) => error.source(),
-            _ => None,
-        }
-    }
-}
-
 /// A reference whose package is invalid.
 #[derive(Clone, Debug, PartialEq, Eq)]
 pub struct PackageReqReferenceInvalidParseError {
@@ -479,19 +369,7 @@ pub struct PackageReqReferenceInvalidParseError {
 impl PackageReqReferenceInvalidParseError {
     /// Where the text is invalid, as for [`PackageReqParseError::place`].
     pub fn place(&self) -> Option<Place> {
-        crate::json::first_error(&calls::reference_errors(&self.specifier))
-    }
-}
-
-impl fmt::Display for PackageReqReferenceInvalidParseError {
-    fn fmt(&self, f: &mut fmt::Formatter<'_>) -> fmt::Result {
-        write!(f, "Invalid package specifier '{}'", self.specifier)
-    }
-}
-
-impl Error for PackageReqReferenceInvalidParseError {
-    fn source(&self) -> Option<&(dyn Error + 'static)> {
-        Some(&self.source)
+        first_error(|out, needed| semver_reference_errors(&self.specifier, out, needed))
     }
 }
 
@@ -509,19 +387,39 @@ pub struct PackageReqReferenceInvalidWithVersionParseError {
 impl PackageReqReferenceInvalidWithVersionParseError {
     /// Where the version stands in the reference with its scheme.
     pub fn place(&self) -> Option<Place> {
-        crate::json::first_error(&calls::reference_errors(&format!("{}{}", self.kind.scheme_with_colon(), self.current)))
+        let text = format!("{}{}", self.kind.scheme_with_colon(), self.current);
+        first_error(|out, needed| semver_reference_errors(&text, out, needed))
     }
 }
 
-impl fmt::Display for PackageReqReferenceInvalidWithVersionParseError {
-    fn fmt(&self, f: &mut fmt::Formatter<'_>) -> fmt::Result {
-        let scheme = self.kind.scheme_with_colon();
-        write!(f, "The version stands in the path of '{scheme}{}'; write '{scheme}{}', ", self.current, self.suggested)?;
+errors! {
+    PackageReqPartsParseError: |it, f| match it {
+        Self::SpecifierVersionReq(error) => error.fmt(f),
+        Self::NpmVersionReq(error) => error.fmt(f),
+        Self::NormalizedVersionReq(error) => error.fmt(f),
+        _ => f.write_str(it.message()),
+    }, match it {
+        Self::SpecifierVersionReq(error) => error.source(),
+        Self::NpmVersionReq(error) => error.source(),
+        Self::NormalizedVersionReq(error) => error.source(),
+        _ => None,
+    };
+    PackageReqParseError: |it, f| write!(f, "Invalid package requirement '{}'", it.text), Some(&it.source);
+    PackageReqReferenceParseError: |it, f| match it {
+        Self::NotExpectedScheme(kind) => write!(f, "Not {} specifier", kind.scheme_with_colon()),
+        Self::Invalid(error) => error.fmt(f),
+        Self::InvalidPathWithVersion(error) => error.fmt(f),
+    }, match it {
+        Self::Invalid(error) => error.source(),
+        _ => None,
+    };
+    PackageReqReferenceInvalidParseError: |it, f| write!(f, "Invalid package specifier '{}'", it.specifier), Some(&it.source);
+    PackageReqReferenceInvalidWithVersionParseError: |it, f| {
+        let scheme = it.kind.scheme_with_colon();
+        write!(f, "The version stands in the path of '{scheme}{}'; write '{scheme}{}', ", it.current, it.suggested)?;
         f.write_str("or add a version requirement to the package.")
-    }
+    };
 }
-
-impl Error for PackageReqReferenceInvalidWithVersionParseError {}
 
 macro_rules! version_error {
     ($(#[$doc:meta])* $name:ident, $line:literal) => {
@@ -534,13 +432,7 @@ macro_rules! version_error {
             pub text: String,
         }
 
-        impl fmt::Display for $name {
-            fn fmt(&self, f: &mut fmt::Formatter<'_>) -> fmt::Result {
-                write!(f, "{} '{}'. {}", $line, self.text, self.message)
-            }
-        }
-
-        impl Error for $name {}
+        errors!($name: |it, f| write!(f, "{} '{}'. {}", $line, it.text, it.message););
     };
 }
 
@@ -555,101 +447,75 @@ version_error!(
     "Invalid package name and version reference"
 );
 
+/// Defines a reference of a registry, from the type of its parts. `$package` is the package among them.
+macro_rules! reference {
+    ($(#[$doc:meta])* $name:ident, $kind:ident, $parts:ident, $error:ident, $(#[$package_doc:meta])* $package:ident: $type:ident) => {
+        $(#[$doc])*
+        pub struct $name(pub $crate::package::$parts);
+
+        impl $name {
+            /// The reference of these parts.
+            pub fn new(inner: $crate::package::$parts) -> $name {
+                $name(inner)
+            }
+
+            /// Parses the reference that is a URL, such as a `url::Url`.
+            pub fn from_specifier(specifier: &impl AsRef<str>) -> Result<$name, $crate::package::$error> {
+                $name::from_str(specifier.as_ref())
+            }
+
+            /// Parses a reference. A requirement is of the strict grammar.
+            #[allow(clippy::should_implement_trait)]
+            pub fn from_str(specifier: &str) -> Result<$name, $crate::package::$error> {
+                $crate::package::$parts::parse(specifier, $crate::package::PackageKind::$kind).map($name)
+            }
+
+            $(#[$package_doc])*
+            pub fn $package(&self) -> &$crate::package::$type {
+                &self.0.$package
+            }
+
+            /// The path behind the package.
+            pub fn sub_path(&self) -> Option<&str> {
+                self.0.sub_path.as_deref()
+            }
+
+            /// The parts.
+            pub fn into_inner(self) -> $crate::package::$parts {
+                self.0
+            }
+        }
+
+        $crate::error::display!($name: |it, f| write!(f, "{}{}", $crate::package::PackageKind::$kind.scheme_with_colon(), it.0););
+    };
+}
+
 /// Defines the two references of a registry.
 macro_rules! references {
     ($(#[$req_doc:meta])* $req:ident, $(#[$nv_doc:meta])* $nv:ident, $kind:ident) => {
-        $(#[$req_doc])*
-        #[derive(Clone, Debug, PartialEq, Eq, Hash)]
-        pub struct $req(pub $crate::package::PackageReqReference);
-
-        impl $req {
-            /// The reference of these parts.
-            pub fn new(inner: $crate::package::PackageReqReference) -> $req {
-                $req(inner)
-            }
-
-            /// Parses the reference that is a URL, such as a `url::Url`.
-            pub fn from_specifier(specifier: &impl AsRef<str>) -> Result<$req, $crate::package::PackageReqReferenceParseError> {
-                $req::from_str(specifier.as_ref())
-            }
-
-            /// Parses a reference, whose requirement is of the strict grammar.
-            #[allow(clippy::should_implement_trait)]
-            pub fn from_str(specifier: &str) -> Result<$req, $crate::package::PackageReqReferenceParseError> {
-                $crate::package::PackageReqReference::parse(specifier, $crate::package::PackageKind::$kind).map($req)
-            }
-
+        $crate::package::reference!(
+            $(#[$req_doc])*
+            #[derive(Clone, Debug, PartialEq, Eq, Hash)]
+            $req, $kind, PackageReqReference, PackageReqReferenceParseError,
             /// The package with its requirement.
-            pub fn req(&self) -> &$crate::package::PackageReq {
-                &self.0.req
-            }
+            req: PackageReq
+        );
+        $crate::package::reference!(
+            $(#[$nv_doc])*
+            #[derive(Clone, Debug, PartialEq, Eq, PartialOrd, Ord, Hash)]
+            $nv, $kind, PackageNvReference, PackageNvReferenceParseError,
+            /// The package with its version.
+            nv: PackageNv
+        );
 
-            /// The path behind the package.
-            pub fn sub_path(&self) -> Option<&str> {
-                self.0.sub_path.as_deref()
-            }
-
-            /// The parts.
-            pub fn into_inner(self) -> $crate::package::PackageReqReference {
-                self.0
-            }
-        }
-
-        impl std::fmt::Display for $req {
-            fn fmt(&self, f: &mut std::fmt::Formatter<'_>) -> std::fmt::Result {
-                write!(f, "{}{}", $crate::package::PackageKind::$kind.scheme_with_colon(), self.0)
-            }
-        }
-
-        $(#[$nv_doc])*
-        #[derive(Clone, Debug, PartialEq, Eq, PartialOrd, Ord, Hash)]
-        pub struct $nv(pub $crate::package::PackageNvReference);
-
+        #[cfg(feature = "url")]
         impl $nv {
-            /// The reference of these parts.
-            pub fn new(inner: $crate::package::PackageNvReference) -> $nv {
-                $nv(inner)
-            }
-
-            /// Parses the reference that is a URL, such as a `url::Url`.
-            pub fn from_specifier(specifier: &impl AsRef<str>) -> Result<$nv, $crate::package::PackageNvReferenceParseError> {
-                $nv::from_str(specifier.as_ref())
-            }
-
-            /// Parses a reference.
-            #[allow(clippy::should_implement_trait)]
-            pub fn from_str(specifier: &str) -> Result<$nv, $crate::package::PackageNvReferenceParseError> {
-                $crate::package::PackageNvReference::parse(specifier, $crate::package::PackageKind::$kind).map($nv)
-            }
-
             /// The reference as a URL.
-            #[cfg(feature = "url")]
             pub fn as_specifier(&self) -> url::Url {
                 self.0.as_specifier($crate::package::PackageKind::$kind)
-            }
-
-            /// The package with its version.
-            pub fn nv(&self) -> &$crate::package::PackageNv {
-                &self.0.nv
-            }
-
-            /// The path behind the package.
-            pub fn sub_path(&self) -> Option<&str> {
-                self.0.sub_path.as_deref()
-            }
-
-            /// The parts.
-            pub fn into_inner(self) -> $crate::package::PackageNvReference {
-                self.0
-            }
-        }
-
-        impl std::fmt::Display for $nv {
-            fn fmt(&self, f: &mut std::fmt::Formatter<'_>) -> std::fmt::Result {
-                write!(f, "{}{}", $crate::package::PackageKind::$kind.scheme_with_colon(), self.0)
             }
         }
     };
 }
 
-pub(crate) use references;
+pub(crate) use {reference, references};

@@ -2,11 +2,12 @@
 //! parses.
 
 use crate::calls::Grammar;
+use crate::error::display;
+use crate::own::write_identifiers;
 use crate::range::{RangeBound, VersionBoundKind, VersionRange};
-use crate::version::{write_identifiers, VersionPreOrBuild};
+use crate::version::VersionPreOrBuild;
 use crate::version_req::VersionReq;
 use crate::CowVec;
-use std::fmt;
 
 /// A number of a partial version, or any.
 #[derive(Clone, Copy, Debug, PartialEq, Eq)]
@@ -17,13 +18,15 @@ pub enum XRange {
     Val(u64),
 }
 
-impl fmt::Display for XRange {
-    fn fmt(&self, f: &mut fmt::Formatter<'_>) -> fmt::Result {
-        match self {
-            XRange::Wildcard => f.write_str("*"),
-            XRange::Val(number) => number.fmt(f),
-        }
-    }
+display! {
+    XRange: |it, f| match it {
+        XRange::Wildcard => f.write_str("*"),
+        XRange::Val(number) => number.fmt(f),
+    };
+    Partial: |it, f| {
+        write!(f, "{}.{}.{}", it.major, it.minor, it.patch)?;
+        write_identifiers(&it.pre, &it.build, f)
+    };
 }
 
 /// A version of which numbers may be left open. Its methods panic if a number of a bound is larger than a `u64`.
@@ -39,13 +42,6 @@ pub struct Partial {
     pub pre: CowVec<VersionPreOrBuild>,
     /// The identifiers of the build.
     pub build: CowVec<VersionPreOrBuild>,
-}
-
-impl fmt::Display for Partial {
-    fn fmt(&self, f: &mut fmt::Formatter<'_>) -> fmt::Result {
-        write!(f, "{}.{}.{}", self.major, self.minor, self.patch)?;
-        write_identifiers(&self.pre, &self.build, f)
-    }
 }
 
 /// The only range of a text.

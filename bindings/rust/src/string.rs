@@ -1,33 +1,19 @@
 //! Strings that need no memory of their own while they are short.
 
+use crate::error::display;
+use crate::raw::{Short, SHORT};
 use std::borrow::{Borrow, Cow};
 use std::cmp::Ordering;
 use std::fmt;
 use std::hash::{Hash, Hasher};
-use std::mem;
 use std::ops::Deref;
 use std::path::Path;
-use std::ptr;
 use std::sync::Arc;
 
-const SHORT: usize = 22;
-
-#[derive(PartialEq, Eq)]
+#[derive(Clone, PartialEq, Eq)]
 enum Text {
-    // The first `len` bytes are UTF-8, and the others are 0.
-    Short { len: u8, bytes: [u8; SHORT] },
+    Short(Short),
     Long(Arc<str>),
-}
-
-impl Clone for Text {
-    #[inline]
-    fn clone(&self) -> Text {
-        if let Text::Long(text) = self {
-            mem::forget(text.clone());
-        }
-        // Safety: the copy has the count that was added, and bytes own nothing. Field by field it is slower.
-        unsafe { ptr::read(self) }
-    }
 }
 
 /// A string of 24 bytes that holds up to 22 bytes of text itself; copies of a longer one share their text.
@@ -52,25 +38,13 @@ impl StackString {
     #[allow(clippy::should_implement_trait)]
     #[inline]
     pub fn from_str(text: &str) -> StackString {
-        if text.len() > SHORT {
-            return StackString(Text::Long(text.into()));
-        }
-        let mut bytes = [0; SHORT];
-        bytes[..text.len()].copy_from_slice(text.as_bytes());
-        StackString(Text::Short { len: text.len() as u8, bytes })
+        StackString(if text.len() <= SHORT { Text::Short(Short::of(text)) } else { Text::Long(text.into()) })
     }
 
+    #[inline]
     pub(crate) fn concat(parts: &[&str]) -> StackString {
-        let len = parts.iter().map(|part| part.len()).sum::<usize>();
-        if len > SHORT {
-            return StackString::from_string(parts.concat());
-        }
-        let (mut bytes, mut end) = ([0; SHORT], 0);
-        for part in parts {
-            bytes[end..end + part.len()].copy_from_slice(part.as_bytes());
-            end += part.len();
-        }
-        StackString(Text::Short { len: len as u8, bytes })
+        let is_short = parts.iter().map(|part| part.len()).sum::<usize>() <= SHORT;
+        StackString(if is_short { Text::Short(Short::concat(parts)) } else { Text::Long(parts.concat().into()) })
     }
 
     /// The string of an owned text.
@@ -87,8 +61,7 @@ impl StackString {
     #[inline]
     pub fn as_str(&self) -> &str {
         match &self.0 {
-            // Safety: the bytes were copied from a `str` of this length.
-            Text::Short { len, bytes } => unsafe { std::str::from_utf8_unchecked(&bytes[..usize::from(*len)]) },
+            Text::Short(text) => text.as_str(),
             Text::Long(text) => text,
         }
     }
@@ -100,7 +73,7 @@ impl StackString {
 
     /// Appends a text.
     pub fn push_str(&mut self, text: &str) {
-        *self = StackString::from_string([self.as_str(), text].concat());
+        *self = StackString::concat(&[self.as_str(), text]);
     }
 
     /// The string with each occurrence of a text replaced by another.
@@ -116,13 +89,14 @@ impl StackString {
 
 impl Default for StackString {
     fn default() -> StackString {
-        StackString(Text::Short { len: 0, bytes: [0; SHORT] })
+        StackString(Text::Short(Short::EMPTY))
     }
 }
 
 impl Deref for StackString {
     type Target = str;
 
+    #[inline]
     fn deref(&self) -> &str {
         self.as_str()
     }
@@ -130,7 +104,7 @@ impl Deref for StackString {
 
 impl Borrow<str> for StackString {
     fn borrow(&self) -> &str {
-        self.as_str()
+        self
     }
 }
 
@@ -146,10 +120,8 @@ impl From<&str> for StackString {
     }
 }
 
-impl fmt::Display for StackString {
-    fn fmt(&self, f: &mut fmt::Formatter<'_>) -> fmt::Result {
-        self.as_str().fmt(f)
-    }
+display! {
+    StackString: |it, f| it.as_str().fmt(f);
 }
 
 impl fmt::Debug for StackString {

@@ -1,19 +1,20 @@
 //! Version requirements: ranges and tags.
 
-use crate::calls::{self, Grammar, Lowest, PreRelease, Requirement};
-use crate::error::{parse_error, ParseErrorFailureError};
-use crate::handle::Held;
+use crate::calls::{self, answer, ordering, with_text, Grammar, PreRelease};
+use crate::error::{display, parse_error, ParseErrorFailureError};
+use crate::externs::*;
 use crate::json;
-use crate::lazy::LazyArc;
+use crate::lowest::{self, Lowest};
 use crate::npm::NpmVersionReqParseError;
 use crate::range::{RangeSetOrTag, VersionRangeSet};
+use crate::raw::Requirement;
 use crate::string::{SmallStackString, StackString};
 use crate::version::Version;
 use std::cmp::Ordering;
 use std::fmt;
 use std::hash::{Hash, Hasher};
 use std::ptr;
-use std::sync::OnceLock;
+use std::sync::{Arc, OnceLock};
 
 /// A version requirement: ranges, or a tag. Two are equal if they mean the same, whatever their texts.
 ///
@@ -23,12 +24,12 @@ pub struct VersionReq {
     text: StackString,
     grammar: Grammar,
     is_tag: bool,
-    shared: LazyArc<Shared>,
+    parsed: Lazy,
 }
 
-#[repr(C)]
-struct Shared {
-    held: Held<Requirement>,
+/// What a requirement is asked by.
+struct Parsed {
+    handle: Requirement,
     // The text that was parsed. It isn't that of the requirement if the caller gave both.
     text: StackString,
     grammar: Grammar,
@@ -37,19 +38,26 @@ struct Shared {
     inner: OnceLock<RangeSetOrTag>,
 }
 
-impl Shared {
-    fn parse(grammar: Grammar, text: StackString) -> Shared {
-        let (handle, normal) = Requirement::parse(grammar, &text);
-        Shared { held: Held::new(handle), text, grammar, normal, inner: OnceLock::new() }
+impl Parsed {
+    fn of(grammar: Grammar, text: StackString, inner: OnceLock<RangeSetOrTag>) -> Arc<Parsed> {
+        let (handle, normal) = Requirement::read(|it, out, needed| semver_req_read(grammar as u32, &text, it, out, needed));
+        Arc::new(Parsed { handle, text, grammar, normal, inner })
     }
+}
 
+/// What is made when it is first needed, and shared by copies that are made later.
+enum Lazy {
+    Now(Arc<Parsed>),
+    Later(OnceLock<Arc<Parsed>>),
+}
+
+impl Clone for Lazy {
     #[inline]
-    fn ask<R>(&self, question: impl FnOnce(&mut Requirement) -> R) -> R {
-        self.held.ask(|| self.requirement(), question)
-    }
-
-    fn requirement(&self) -> Requirement {
-        Requirement::parse(self.grammar, &self.text).0
+    fn clone(&self) -> Lazy {
+        match self {
+            Lazy::Now(parsed) => Lazy::Now(parsed.clone()),
+            Lazy::Later(parsed) => parsed.get().map_or_else(|| Lazy::Later(OnceLock::new()), |parsed| Lazy::Now(parsed.clone())),
+        }
     }
 }
 
@@ -69,10 +77,11 @@ impl VersionReq {
         VersionReq::parse(Grammar::Npm, text).map_err(|source| NpmVersionReqParseError { source })
     }
 
+    #[inline]
     pub(crate) fn parse(grammar: Grammar, text: &str) -> Result<VersionReq, ParseErrorFailureError> {
         let kept = if grammar == Grammar::Npm { text.trim() } else { text };
         let is_tag = calls::is_tag(grammar, kept).map_err(|message| ParseErrorFailureError::of_range(message, grammar, text))?;
-        Ok(VersionReq { text: kept.into(), grammar, is_tag, shared: LazyArc::none() })
+        Ok(VersionReq { text: kept.into(), grammar, is_tag, parsed: Lazy::Later(OnceLock::new()) })
     }
 
     /// The requirement of these ranges or this tag, with another text.
@@ -81,26 +90,27 @@ impl VersionReq {
     ///
     /// If the tag isn't a valid one.
     pub fn from_raw_text_and_inner(raw_text: SmallStackString, inner: RangeSetOrTag) -> VersionReq {
-        let text = match &inner {
-            RangeSetOrTag::RangeSet(ranges) => ranges.to_string(),
+        let (text, is_tag) = match &inner {
+            RangeSetOrTag::RangeSet(ranges) => (ranges.to_string(), false),
             RangeSetOrTag::Tag(tag) => {
-                assert!(calls::may_be_tag(tag), "a valid tag: {tag}");
+                assert!(semver_may_be_tag(tag) == calls::YES, "a valid tag: {tag}");
                 // No range begins with a space, so that this is a tag even if the tag reads as a range.
-                format!(" {tag}")
+                (format!(" {tag}"), true)
             }
         };
-        let is_tag = matches!(inner, RangeSetOrTag::Tag(_));
-        let shared = Shared::parse(Grammar::Normalized, text.as_str().into());
-        let shared = Shared { inner: inner.into(), ..shared };
-        VersionReq { text: raw_text, grammar: Grammar::Normalized, is_tag, shared: shared.into() }
+        let parsed = Lazy::Now(Parsed::of(Grammar::Normalized, text.as_str().into(), inner.into()));
+        VersionReq { text: raw_text, grammar: Grammar::Normalized, is_tag, parsed }
     }
 
     /// The ranges or the tag.
     pub fn inner(&self) -> &RangeSetOrTag {
-        let shared = self.shared();
-        shared.inner.get_or_init(|| match self.is_tag {
-            true => RangeSetOrTag::Tag(shared.normal.clone()),
-            false => RangeSetOrTag::RangeSet(json::ranges(&calls::ranges(shared.grammar, &shared.text))),
+        let Parsed { text, grammar, normal, inner, .. } = self.parsed();
+        inner.get_or_init(|| match self.is_tag {
+            true => RangeSetOrTag::Tag(normal.clone()),
+            false => RangeSetOrTag::RangeSet(with_text(
+                |out, needed| semver_ranges(*grammar as u32, text, out, needed),
+                |_, json| json::ranges(json),
+            )),
         })
     }
 
@@ -134,31 +144,30 @@ impl VersionReq {
     /// If this is a tag.
     #[inline]
     pub fn matches_with(&self, version: &Version, pre_release: PreRelease) -> bool {
-        let is_match = self.ask(|req| version.is_matched_by(req, pre_release));
-        is_match.unwrap_or_else(|| panic!("the requirement is the tag {}", self.text))
+        let is_match = version.is_matched_by(self.held(), pre_release);
+        is_match.unwrap_or_else(|| panic!("the requirement is the tag {self}"))
     }
 
     /// Whether both overlap by their bounds; two tags do if they are the same.
     #[inline]
     pub fn intersects(&self, other: &VersionReq) -> bool {
-        self.ask_both(other, Requirement::overlaps)
+        answer(semver_req_overlap(self.held(), other.held())) == Some(true)
     }
 
     /// The lowest version that matches, by npm's rule for pre-releases or without it.
     pub fn min_version(&self, pre_release: PreRelease) -> Lowest {
-        let shared = self.shared();
-        calls::min_version(shared.grammar, &shared.text, pre_release)
-            .unwrap_or_else(|invalid| unreachable!("{}", invalid.message))
+        let Parsed { grammar, text, .. } = self.parsed();
+        lowest::min_version(*grammar, text, pre_release).expect("the text was parsed")
     }
 
     /// The order in which packages of one name stand.
     pub(crate) fn order(&self, other: &VersionReq) -> Ordering {
-        self.ask_both(other, Requirement::order)
+        ordering(semver_req_order(self.held(), other.held()))
     }
 
     /// The canonical form, or the tag.
     pub(crate) fn normalized(&self) -> &str {
-        &self.shared().normal
+        &self.parsed().normal
     }
 
     /// The text that was parsed.
@@ -172,23 +181,16 @@ impl VersionReq {
     }
 
     #[inline]
-    fn shared(&self) -> &Shared {
-        self.shared.get_or_make(|| Shared::parse(self.grammar, self.text.clone()))
-    }
-
-    #[inline]
-    pub(crate) fn ask<R>(&self, question: impl FnOnce(&mut Requirement) -> R) -> R {
-        self.shared().ask(question)
-    }
-
-    // The answer to a question about two requirements. If they share their handle, one is parsed again.
-    #[inline]
-    fn ask_both<R>(&self, other: &VersionReq, question: impl FnOnce(&mut Requirement, &mut Requirement) -> R) -> R {
-        let (one, two) = (self.shared(), other.shared());
-        if ptr::eq(one, two) {
-            return one.ask(|req| question(req, &mut one.requirement()));
+    fn parsed(&self) -> &Parsed {
+        match &self.parsed {
+            Lazy::Now(parsed) => parsed,
+            Lazy::Later(parsed) => parsed.get_or_init(|| Parsed::of(self.grammar, self.text.clone(), OnceLock::new())),
         }
-        one.held.ask_two(|| one.requirement(), &two.held, || two.requirement(), question)
+    }
+
+    #[inline]
+    pub(crate) fn held(&self) -> &Requirement {
+        &self.parsed().handle
     }
 }
 
@@ -196,8 +198,8 @@ impl VersionReq {
 impl PartialEq for VersionReq {
     #[inline]
     fn eq(&self, other: &VersionReq) -> bool {
-        let (one, two) = (self.shared(), other.shared());
-        ptr::eq(one, two) || one.normal == two.normal && self.ask_both(other, Requirement::equals)
+        let (one, two) = (self.parsed(), other.parsed());
+        ptr::eq(one, two) || one.normal == two.normal && answer(semver_req_equal(&one.handle, &two.handle)) == Some(true)
     }
 }
 
@@ -209,15 +211,13 @@ impl Hash for VersionReq {
     }
 }
 
-impl fmt::Display for VersionReq {
-    fn fmt(&self, f: &mut fmt::Formatter<'_>) -> fmt::Result {
-        f.write_str(&self.text)
-    }
+display! {
+    VersionReq: |it, f| f.write_str(&it.text);
 }
 
 impl fmt::Debug for VersionReq {
     fn fmt(&self, f: &mut fmt::Formatter<'_>) -> fmt::Result {
-        write!(f, "VersionReq({})", self.text)
+        write!(f, "VersionReq({self})")
     }
 }
 
