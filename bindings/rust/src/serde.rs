@@ -6,6 +6,7 @@ use crate::package::{PackageNv, PackageReq};
 use crate::{RangeBound, RangeSetOrTag, StackString, Version, VersionBound, VersionBoundKind, VersionRange, VersionReq};
 use serde::de::value::MapAccessDeserializer;
 use serde::de::{Error, IgnoredAny, MapAccess, Unexpected, Visitor};
+use serde::ser::SerializeStruct;
 use serde::{Deserialize, Deserializer, Serialize, Serializer};
 use std::borrow::Cow;
 use std::fmt;
@@ -64,52 +65,34 @@ fn object<'de, T: Deserialize<'de>, D: Deserializer<'de>>(deserializer: D) -> Re
     deserializer.deserialize_map(Object(PhantomData))
 }
 
-/// A requirement as an object.
-#[derive(Serialize, Deserialize)]
-#[serde(rename = "VersionReq")]
-struct Requirement {
-    raw_text: StackString,
-    inner: RangeSetOrTag,
+macro_rules! as_object {
+    ($($name:ident { $($field:ident: $type:ty),* } => $value:expr;)*) => {$(
+        impl<'de> Deserialize<'de> for $name {
+            fn deserialize<D: Deserializer<'de>>(deserializer: D) -> Result<$name, D::Error> {
+                #[derive(Deserialize)]
+                struct Fields {
+                    $($field: $type,)*
+                }
+
+                let Fields { $($field),* } = object(deserializer)?;
+                Ok($value)
+            }
+        }
+    )*};
+}
+
+as_object! {
+    VersionReq { raw_text: StackString, inner: RangeSetOrTag } => VersionReq::from_raw_text_and_inner(raw_text, inner);
+    VersionRange { start: RangeBound, end: RangeBound } => VersionRange { start, end };
+    VersionBound { kind: VersionBoundKind, version: Version } => VersionBound { kind, version };
 }
 
 impl Serialize for VersionReq {
     fn serialize<S: Serializer>(&self, serializer: S) -> Result<S::Ok, S::Error> {
-        Requirement { raw_text: self.version_text().into(), inner: self.inner().clone() }.serialize(serializer)
-    }
-}
-
-impl<'de> Deserialize<'de> for VersionReq {
-    fn deserialize<D: Deserializer<'de>>(deserializer: D) -> Result<VersionReq, D::Error> {
-        let Requirement { raw_text, inner } = object(deserializer)?;
-        Ok(VersionReq::from_raw_text_and_inner(raw_text, inner))
-    }
-}
-
-/// A range as an object.
-#[derive(Deserialize)]
-struct Range {
-    start: RangeBound,
-    end: RangeBound,
-}
-
-impl<'de> Deserialize<'de> for VersionRange {
-    fn deserialize<D: Deserializer<'de>>(deserializer: D) -> Result<VersionRange, D::Error> {
-        let Range { start, end } = object(deserializer)?;
-        Ok(VersionRange { start, end })
-    }
-}
-
-/// The version of a bound as an object.
-#[derive(Deserialize)]
-struct Bound {
-    kind: VersionBoundKind,
-    version: Version,
-}
-
-impl<'de> Deserialize<'de> for VersionBound {
-    fn deserialize<D: Deserializer<'de>>(deserializer: D) -> Result<VersionBound, D::Error> {
-        let Bound { kind, version } = object(deserializer)?;
-        Ok(VersionBound { kind, version })
+        let mut object = serializer.serialize_struct("VersionReq", 2)?;
+        object.serialize_field("raw_text", self.version_text())?;
+        object.serialize_field("inner", self.inner())?;
+        object.end()
     }
 }
 
