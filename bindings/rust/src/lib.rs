@@ -66,3 +66,11 @@ error::errors! {
 #[cfg(doctest)]
 #[doc = include_str!("../README.md")]
 struct Readme;
+
+/// Callers reach no handle, so none that is empty.
+///
+/// ```compile_fail,E0603
+/// let handle: Option<deno_semver_proved::raw::Requirement> = None;
+/// ```
+#[cfg(doctest)]
+struct Handles;

@@ -54,11 +54,12 @@ macro_rules! handle {
         unsafe impl Sync for $name {}
 
         impl $name {
-            /// The handle that a call reads into, and the text that it writes. The call is repeated if the text is long.
+            /// The handle that a call reads into, which is never empty, and the text that the call writes. It is repeated if that is long.
             pub(crate) fn read(mut call: impl FnMut(&mut $name, &mut [u8], &mut usize) -> i32) -> ($name, StackString) {
                 let mut handle = $name { at: ptr::null_mut() };
                 let read = |code, text: &str| if code == YES { text.into() } else { failed(code) };
                 let text = with_text(|out, needed| call(&mut handle, out, needed), read);
+                assert!(!handle.at.is_null(), "the call read a value");
                 (handle, text)
             }
         }
@@ -123,5 +124,16 @@ impl Short {
     pub(crate) fn as_str(&self) -> &str {
         // SAFETY: the bytes were copied from texts of this length, which are UTF-8, and nothing changes them.
         unsafe { std::str::from_utf8_unchecked(&self.bytes[..usize::from(self.len)]) }
+    }
+}
+
+#[cfg(test)]
+mod tests {
+    use super::{Requirement, YES};
+
+    #[test]
+    #[should_panic(expected = "the call read a value")]
+    fn no_handle_is_empty() {
+        Requirement::read(|_, _, _| YES);
     }
 }

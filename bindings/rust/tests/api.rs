@@ -16,8 +16,9 @@ use deno_semver_proved::{
 use std::cmp::Ordering;
 use std::collections::{BTreeSet, HashMap, HashSet};
 use std::error::Error;
+use std::mem;
 use std::panic::{RefUnwindSafe, UnwindSafe};
-use std::sync::{Arc, LazyLock};
+use std::sync::{Barrier, LazyLock};
 use std::thread;
 
 fn version(text: &str) -> Version {
@@ -279,6 +280,79 @@ fn versions_are_those_of_the_library() {
     }
 }
 
+/// A range from one version to a higher one, of one version, or without an end, another one for each seed. Versions have no build, which
+/// comparators leave out.
+fn a_range(next: &mut impl FnMut(usize) -> usize) -> VersionRange {
+    let texts = [
+        "0.0.0",
+        "0.0.1",
+        "0.0.2",
+        "0.1.0",
+        "0.1.1",
+        "0.2.0",
+        "1.0.0-a",
+        "1.0.0-a.1",
+        "1.0.0",
+        "1.1.0",
+        "1.1.1",
+        "1.2.0-0",
+        "2.0.0",
+        "3.0.0",
+    ];
+    let (one, other) = (next(texts.len()), next(texts.len()));
+    let mut bound = |n: usize, kinds| match next(if one == other { 1 } else { kinds }) {
+        0 | 1 => RangeBound::inclusive(version(texts[n])),
+        2 | 3 => RangeBound::exclusive(version(texts[n])),
+        _ => RangeBound::Unbounded,
+    };
+    VersionRange { start: bound(one.min(other), 4), end: bound(one.max(other), 5) }
+}
+
+/// The comparators of a range.
+fn comparators(range: &VersionRange) -> String {
+    let comparator = |operator: &str, bound: &RangeBound| match bound {
+        RangeBound::Version(bound) if bound.kind == VersionBoundKind::Inclusive => format!("{operator}={} ", bound.version),
+        RangeBound::Version(bound) => format!("{operator}{} ", bound.version),
+        RangeBound::Unbounded => String::new(),
+    };
+    let text = comparator(">", &range.start) + &comparator("<", &range.end);
+    if text.is_empty() {
+        "*".to_string()
+    } else {
+        text.trim_end().to_string()
+    }
+}
+
+// The rules of ranges that a caller builds are the crate's own. The proved calls must answer the same of the ranges that a text gives.
+#[test]
+fn ranges_are_those_of_the_library() {
+    for seed in 0..20_000 {
+        let mut next = random(seed);
+        let ranges = [a_range(&mut next), a_range(&mut next)];
+        let [one, other] = ranges.each_ref().map(comparators);
+        let [one_req, other_req, both] =
+            [one.clone(), other.clone(), format!("{one} {other}")].map(|text| VersionReq::parse_from_normalized(&text).unwrap());
+        assert_eq!(one_req.range(), Some(&VersionRangeSet(vec![ranges[0].clone()])), "{one}");
+        assert_eq!(both.range(), Some(&VersionRangeSet(vec![ranges[0].clamp(&ranges[1])])), "{one} {other}");
+        assert_eq!(one_req.intersects(&other_req), ranges[0].intersects_range(&ranges[1]), "{one}, {other}");
+        assert_eq!(ranges[0].to_string(), one_req.to_string_normalized());
+        assert_eq!(ranges[0].clamp(&ranges[1]).to_string(), both.to_string_normalized(), "{one} {other}");
+        let (texts, set) = (format!("{one} || {other}"), VersionRangeSet(ranges.to_vec()));
+        assert_eq!(lowest::normal(Grammar::Normalized, &texts), Ok(set.to_string()));
+        let third = a_range(&mut next);
+        let third_req = VersionReq::parse_from_normalized(&comparators(&third)).unwrap();
+        let set_req = VersionReq::parse_from_normalized(&texts).unwrap();
+        assert_eq!(set_req.intersects(&third_req), set.intersects_set(&VersionRangeSet(vec![third.clone()])), "{texts}, {third}");
+        assert_eq!(set_req.intersects(&third_req), set_req.inner().intersects(third_req.inner()));
+        let text = version_text(seed);
+        let fits = |is_match| Ok(vec![if is_match { Fit::Yes } else { Fit::No }]);
+        let answer = fits(set.satisfies(&version(&text)));
+        assert_eq!(lists::filter(Grammar::Normalized, &texts, &text, PreRelease::Restricted), answer, "{texts}, {text}");
+        let answer = fits(ranges[0].intersects_version(&version(&text)));
+        assert_eq!(lists::filter(Grammar::Normalized, &one, &text, PreRelease::Admitted), answer, "{one}, {text}");
+    }
+}
+
 // The types split names and paths off themselves. The proved calls for whole packages must find the same parts.
 #[test]
 fn packages_are_those_of_the_library() {
@@ -406,31 +480,76 @@ fn types_are_plain() {
 
 static SHARED: LazyLock<VersionReq> = LazyLock::new(|| npm("^1.2 || >=3"));
 
-// Threads ask of the same values at once, which were made by one of them or by another thread, and in both orders.
-#[test]
-fn values_are_shared() {
-    let versions: Arc<Vec<Version>> = Arc::new(["1.3.0", "2.0.0", "3.0.0-a", "3.0.0"].map(version).into());
-    assert!(WILDCARD_VERSION_REQ.matches(&versions[0]) && versions[0] < versions[1]);
-    let ask = |n: usize| {
-        let (versions, reversed) = (versions.clone(), n % 2 == 0);
-        move || {
-            for _ in 0..2_000 {
-                assert_eq!(
-                    versions.iter().map(|version| SHARED.matches(version)).collect::<Vec<_>>(),
-                    [true, false, false, true]
-                );
-                let mut list = versions.to_vec();
-                if reversed {
-                    list.reverse();
-                }
-                list.sort();
-                assert_eq!((&list, SHARED.intersects(&WILDCARD_VERSION_REQ)), (&*versions, true));
-                assert!(!WILDCARD_VERSION_REQ.eq(&SHARED) && SHARED.intersects(&SHARED.clone()));
+/// Values that are asked.
+struct Values {
+    reqs: Vec<VersionReq>,
+    versions: Vec<Version>,
+    list: VersionList,
+}
+
+impl Values {
+    fn new() -> Values {
+        let versions = ["1.3.0", "2.0.0", "3.0.0-a.1", "3.0.0+b", "3.0.0-a.1+b.2", "3.0.0", "0.0.0-0"];
+        let list = VersionList::parse(&versions.join("\n"));
+        let ranges = ["^1.2 || >=3", "1 - 2.0.0-x", ">=3.0.0-a <3.0.0 || ~1.3", "*", "^1.2.0 || >=3.0.0"];
+        Values { reqs: ranges.map(npm).into(), versions: versions.map(version).into(), list }
+    }
+
+    /// The answers to each question about these values, each two of them, and one and itself.
+    fn ask(&self) -> String {
+        let mut answers = Vec::new();
+        for req in &self.reqs {
+            let (filtered, best) = (self.list.filter(req, PreRelease::Admitted), self.list.best(req, PreRelease::Restricted));
+            answers.push(format!("{req} {} {filtered:?} {best:?} {}", req.to_string_normalized(), req.inner()));
+            for pre_release in [PreRelease::Restricted, PreRelease::Admitted] {
+                answers.extend(self.versions.iter().map(|version| req.matches_with(version, pre_release).to_string()));
             }
+            answers.extend(self.reqs.iter().map(|other| format!("{} {}", req.intersects(other), req == other)));
         }
-    };
-    let threads: Vec<_> = (0..4).map(|n| thread::spawn(ask(n))).collect();
-    threads.into_iter().for_each(|thread| thread.join().unwrap());
+        for one in &self.versions {
+            answers.push(format!("{one} {:?} {:?}", one.pre, one.build));
+            answers.extend(
+                self.versions.iter().map(|two| format!("{:?} {:?} {}", one.cmp(two), one.cmp_precedence(two), one == two)),
+            );
+        }
+        answers.push(format!("{:?} {}", self.list.sort(), SHARED.intersects(&WILDCARD_VERSION_REQ)));
+        answers.join("\n")
+    }
+}
+
+// Eight threads ask the same values at once, with a stack of 64 KiB: first values of which nothing was asked before, and then copies.
+#[test]
+fn threads_ask_the_same_values() {
+    let wanted = Values::new().ask();
+    assert_eq!(wanted.lines().count(), 5 * (1 + 2 * 7 + 5) + 7 * (1 + 7) + 1);
+    for _ in 0..50 {
+        let (values, start) = (Values::new(), Barrier::new(8));
+        thread::scope(|scope| {
+            for _ in 0..8 {
+                let ask = || {
+                    start.wait();
+                    assert_eq!(values.ask(), wanted);
+                    let Values { reqs, versions, list } = &values;
+                    let copies = Values { reqs: reqs.clone(), versions: versions.clone(), list: list.clone() };
+                    (0..10).for_each(|_| assert_eq!(copies.ask(), wanted));
+                };
+                thread::Builder::new().stack_size(64 << 10).spawn_scoped(scope, ask).unwrap();
+            }
+        });
+    }
+}
+
+// What is left where a value is taken away, and a copy of a value that is gone, answer as others do.
+#[test]
+fn no_value_is_empty() {
+    let mut rc = version("1.2.3-rc.1");
+    assert!(npm("1.2.3-rc.1").matches(&rc));
+    let (copy, taken) = (rc.clone(), mem::take(&mut rc));
+    assert_eq!((rc.to_string(), npm("0.0.0").matches(&rc), &taken), ("0.0.0".into(), true, &copy));
+    drop(taken);
+    assert!(npm("1.2.3-rc.1").matches(&copy) && copy < version("1.2.3"));
+    let kept = { npm("^1").clone() };
+    assert!(kept.matches(&version("1.0.0")) && kept.intersects(&kept));
 }
 
 #[test]
