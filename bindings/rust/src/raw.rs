@@ -91,8 +91,9 @@ handle!(
 /// How many bytes a short string has at most.
 pub(crate) const SHORT: usize = 22;
 
-/// A string of up to 22 bytes: the first `len` are UTF-8, and the others are 0.
+/// A string of up to 22 bytes: the first `len` are UTF-8, and the others are 0. In this order they are copied faster.
 #[derive(Clone, Copy, PartialEq, Eq)]
+#[repr(C)]
 pub(crate) struct Short {
     len: u8,
     bytes: [u8; SHORT],
