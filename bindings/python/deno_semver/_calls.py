@@ -27,7 +27,8 @@ def _path() -> str:
 
 
 def _load() -> Dict[str, Callable[..., Any]]:
-    # The calls of texts let other threads run. Those of handles are short, and hold the interpreter's lock.
+    # The calls of texts let other threads run. Those of handles are short, and to give up the interpreter's lock would take longer. They
+    # need no lock: threads may ask one handle at once.
     of_texts, of_handles = ctypes.CDLL(_path()), ctypes.PyDLL(_path())
     calls: Dict[str, Callable[..., Any]] = {}
     for name, (result, *arguments) in TABLE.items():

@@ -147,7 +147,7 @@ class Version:
         """
         if not isinstance(other, Version):
             wrong_type(other, "other", "Version")
-        return self is not other and CALLS["version_compare"](self._held.lent(), other._held.lent()) == 0
+        return CALLS["version_compare"](self._held.lent(), other._held.lent()) == 0
 
 
 class Range:
@@ -214,7 +214,7 @@ class Range:
     def __eq__(self, other: object) -> bool:
         if not isinstance(other, Range):
             return NotImplemented
-        return self is other or CALLS["req_equal"](self._held.lent(), other._held.lent()) == YES
+        return CALLS["req_equal"](self._held.lent(), other._held.lent()) == YES
 
     def __hash__(self) -> int:
         return hash(self.canonical)
@@ -254,8 +254,6 @@ class Range:
         """
         if not isinstance(other, Range):
             wrong_type(other, "other", "Range")
-        if self is other:
-            other = Range(self.text, self.grammar)
         return CALLS["req_overlap"](self._held.lent(), other._held.lent()) == YES
 
 

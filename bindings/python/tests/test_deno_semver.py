@@ -346,15 +346,36 @@ class Lifetimes(unittest.TestCase):
                 raised, allocations = type(caught.exception), allocations + 1
             self.assertGreater(allocations, 1)
 
+    def test_values_and_themselves(self):
+        range_, none, version = Range("^1.2 || 3"), Range("<0.0.0"), Version("1.0.0-a+b")
+        self.assertEqual((range_ == range_, range_.overlaps(range_), none.overlaps(none)), (True, True, False))
+        self.assertEqual((version == version, version < version, version.precedes(version)), (True, False, False))
+
     def test_threads(self):
-        range_, versions = Range("^1.2 || 3"), [Version(f"1.{n}.0") for n in range(50)]
+        self._ask_by_threads()
+
+    def test_threads_without_a_lock(self):
+        """As in an interpreter without its lock, which calls by CDLL give up."""
+        library, freed = ctypes.CDLL(_calls._path()), {}
+        for name, call in _calls.CALLS.items():
+            freed[name] = getattr(library, f"semver_{name}")
+            freed[name].argtypes, freed[name].restype = call.argtypes, call.restype
+        with mock.patch.dict(_calls.CALLS, freed):
+            self._ask_by_threads()
+
+    def _ask_by_threads(self):
+        """Asks the same values by eight threads at once."""
+        range_, versions = Range("^1.2 || 3"), [Version(f"1.{n}.0-a.{n}+b") for n in range(50)]
         wrong = []
 
         def ask():
             for _ in range(20):
-                found = [version for version in versions if range_.matches(version)]
-                if len(found) != 48 or semver.sort(versions) != versions:
+                found = [version for version in versions if range_.matches(version, pre_releases=True)]
+                if len(found) != 47 or semver.sort(versions) != versions:
                     wrong.append(found)
+                before = [one.precedes(other) for one, other in zip(versions, [*versions[1:], versions[-1]])]
+                if before.count(True) != 49 or not (range_ == range_ and range_.overlaps(range_)):
+                    wrong.append(before)
 
         threads = [threading.Thread(target=ask) for _ in range(8)]
         for thread in threads:
