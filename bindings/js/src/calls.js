@@ -54,8 +54,9 @@ function linked(name) {
 export const wasm = Object.fromEntries(Object.keys(instance).filter((name) => name !== 'memory').map((name) => [name, linked(name)]));
 
 /**
- * Replaces the instance if its last call didn't return: where the stack or the time of a `vm` runs out, or the call traps, it leaves values
- * half changed. What the old instance held is lost. If this is interrupted itself, the next call begins it again.
+ * Replaces the instance if its last call didn't return: where the stack or the time of a `vm` runs out, or the call traps. A call that asks
+ * a value leaves it as it was, but one that is interrupted may leave the stack pointer moved, or the allocator between two states. What the
+ * old instance held is lost. If this is interrupted itself, the next call begins it again.
  */
 function replace() {
   instance = new WebAssembly.Instance(compiled).exports;

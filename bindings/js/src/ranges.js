@@ -1,6 +1,6 @@
 // Ranges, and lists of versions, that the library holds between calls.
 
-import { YES, ask2, askHeld, codes, currentInstance, handle, isWellFormed, outOfMemory, places, text, wasm, write } from './calls.js';
+import { YES, askHeld, codes, currentInstance, handle, isWellFormed, outOfMemory, places, text, wasm, write } from './calls.js';
 import { errorOf, expectString, kindOf, optionsOf } from './errors.js';
 import { parse } from './held.js';
 import { expectArray, linesOf, textsOf } from './lists.js';
@@ -91,9 +91,6 @@ export class Range {
   }
 
   overlaps(other) {
-    const { grammar } = this.#options;
-    // The two ranges of a call on held ones are different objects.
-    if (other === this) return ask2(wasm.overlap, grammar, this.#text, this.#text) === YES;
     return wasm.range_overlap(this.#held.address, expectRange(other, 'other').#held.address) === YES;
   }
 
