@@ -449,7 +449,10 @@ version_error!(
 
 /// Defines a reference of a registry, from the type of its parts. `$package` is the package among them.
 macro_rules! reference {
-    ($(#[$doc:meta])* $name:ident, $kind:ident, $parts:ident, $error:ident, $(#[$package_doc:meta])* $package:ident: $type:ident) => {
+    (
+        $(#[$doc:meta])* $name:ident, $kind:ident, $parts:ident, $(#[$parse_doc:meta])* $error:ident,
+        $(#[$package_doc:meta])* $package:ident: $type:ident
+    ) => {
         $(#[$doc])*
         pub struct $name(pub $crate::package::$parts);
 
@@ -464,7 +467,7 @@ macro_rules! reference {
                 $name::from_str(specifier.as_ref())
             }
 
-            /// Parses a reference. A requirement is of the strict grammar.
+            $(#[$parse_doc])*
             #[allow(clippy::should_implement_trait)]
             pub fn from_str(specifier: &str) -> Result<$name, $crate::package::$error> {
                 $crate::package::$parts::parse(specifier, $crate::package::PackageKind::$kind).map($name)
@@ -496,14 +499,18 @@ macro_rules! references {
         $crate::package::reference!(
             $(#[$req_doc])*
             #[derive(Clone, Debug, PartialEq, Eq, Hash)]
-            $req, $kind, PackageReqReference, PackageReqReferenceParseError,
+            $req, $kind, PackageReqReference,
+            /// Parses a reference, whose requirement is of the strict grammar.
+            PackageReqReferenceParseError,
             /// The package with its requirement.
             req: PackageReq
         );
         $crate::package::reference!(
             $(#[$nv_doc])*
             #[derive(Clone, Debug, PartialEq, Eq, PartialOrd, Ord, Hash)]
-            $nv, $kind, PackageNvReference, PackageNvReferenceParseError,
+            $nv, $kind, PackageNvReference,
+            /// Parses a reference.
+            PackageNvReferenceParseError,
             /// The package with its version.
             nv: PackageNv
         );
