@@ -11,10 +11,12 @@
 //!
 //! Running out of memory ends the program, as elsewhere in Rust. The features `serde` and `url` add what needs these crates.
 
-#![warn(missing_docs)]
+#![warn(missing_docs, clippy::undocumented_unsafe_blocks)]
+#![deny(unsafe_code)]
 
 mod calls;
 mod error;
+#[allow(unsafe_code)] // where `raw::calls` expands
 mod externs;
 mod json;
 pub mod jsr;
@@ -25,6 +27,7 @@ mod own;
 pub mod package;
 mod partial;
 mod range;
+#[allow(unsafe_code)]
 mod raw;
 #[cfg(feature = "serde")]
 mod serde;
