@@ -224,10 +224,12 @@ fn nv_json(nv: &PackageNv) -> String {
 
 /// Numbers below others, other ones for each seed.
 fn random(seed: u32) -> impl FnMut(usize) -> usize {
-    let mut state = seed.wrapping_mul(2_654_435_761);
+    let mut state = u64::from(seed);
     move |below| {
-        state = state.wrapping_mul(1_664_525).wrapping_add(1_013_904_223);
-        (state >> 16) as usize % below
+        state = state.wrapping_add(0x9e37_79b9_7f4a_7c15);
+        let mixed = (state ^ (state >> 30)).wrapping_mul(0xbf58_476d_1ce4_e5b9);
+        let mixed = (mixed ^ (mixed >> 27)).wrapping_mul(0x94d0_49bb_1331_11eb);
+        (mixed ^ (mixed >> 31)) as usize % below
     }
 }
 
