@@ -1,7 +1,7 @@
 //! References to JSR packages, and the dependencies of one.
 
 use crate::error::{display, errors};
-use crate::own::export_name;
+use crate::own;
 use crate::package::{references, PackageKind, PackageReq, PackageReqParseError};
 use crate::string::StackString;
 use std::borrow::Cow;
@@ -17,20 +17,20 @@ references!(
 impl JsrPackageReqReference {
     /// The name of the export that the path means.
     pub fn export_name(&self) -> Cow<'_, str> {
-        export_name(self.sub_path())
+        own::export_name(self.sub_path())
     }
 }
 
 impl JsrPackageNvReference {
     /// The name of the export that the path means.
     pub fn export_name(&self) -> Cow<'_, str> {
-        export_name(self.sub_path())
+        own::export_name(self.sub_path())
     }
 }
 
 /// The name of the export that a path in a JSR package means, such as `./mod.ts`; without a path, `.`.
 pub fn normalized_export_name(sub_path: Option<&str>) -> Cow<'_, str> {
-    export_name(sub_path)
+    own::export_name(sub_path)
 }
 
 /// A dependency of a JSR package: a package of JSR or npm with a requirement, such as `npm:name@1`.
@@ -73,13 +73,9 @@ impl JsrDepPackageReq {
         text: &str,
         parse_req: fn(&str) -> Result<PackageReq, PackageReqParseError>,
     ) -> Result<JsrDepPackageReq, JsrDepPackageReqParseError> {
-        for kind in [PackageKind::Jsr, PackageKind::Npm] {
-            if let Some(package) = text.strip_prefix(kind.scheme_with_colon()) {
-                return Ok(JsrDepPackageReq { kind, req: parse_req(package)? });
-            }
-        }
-        let scheme = text.split_once(':').map_or(text, |(scheme, _)| scheme);
-        Err(JsrDepPackageReqParseError::NotExpectedScheme(scheme.to_owned()))
+        let (kind, package) =
+            own::dependency_parts(text).map_err(|scheme| JsrDepPackageReqParseError::NotExpectedScheme(scheme.to_owned()))?;
+        Ok(JsrDepPackageReq { kind, req: parse_req(package)? })
     }
 
     /// The canonical form of the whole text, as it is stored. It isn't a URL.

@@ -4,7 +4,7 @@
 use crate::calls::ordering;
 use crate::error::display;
 use crate::externs::{semver_version_compare, semver_version_order};
-use crate::package::PackageReqPartsParseError;
+use crate::package::{PackageKind, PackageReqPartsParseError};
 use crate::range::{RangeBound, RangeSetOrTag, VersionBound, VersionBoundKind, VersionRange, VersionRangeSet};
 use crate::string::StackString;
 use crate::version::{Version, VersionParts, VersionPreOrBuild};
@@ -38,13 +38,39 @@ pub(crate) fn package_parts(text: &str) -> Result<PackageParts<'_>, PackageReqPa
     Ok(PackageParts { name: &text[..scope + name.len()], requirement, path })
 }
 
-/// The name of a package, its version up to `/` or `_`, and what follows.
+/// The name of a package, its version up to `/`, and what follows.
 #[inline]
 pub(crate) fn name_with_version(text: &str) -> Option<(&str, &str, &str)> {
     let after_first = text.chars().next()?.len_utf8();
-    let (name, version) = text.split_at(after_first + text[after_first..].find('@')?);
-    let (version, rest) = version[1..].split_at(version[1..].find(['/', '_']).unwrap_or(version.len() - 1));
-    Some((name, version, rest))
+    let at = after_first + text[after_first..].find('@')?;
+    let (version, rest) = text[at + 1..].split_at(text[at + 1..].find('/').unwrap_or(text.len() - at - 1));
+    Some((&text[..at], version, rest))
+}
+
+/// The path of a reference, or its fault: a version that stands in it, and the path before that.
+#[inline]
+pub(crate) fn reference_path(path: &str, has_requirement: bool) -> Result<Option<&str>, (&str, &str)> {
+    match path {
+        "" | "/" => Ok(None),
+        _ if has_requirement => Ok(Some(path)),
+        _ => path.rsplit_once('@').map_or(Ok(Some(path)), |(before, version)| Err((version, before))),
+    }
+}
+
+/// The path of a reference to one version, whose version is followed by this; none where it's no path.
+#[inline]
+pub(crate) fn version_reference_path(rest: &str) -> Option<Option<&str>> {
+    match rest {
+        "" => Some(None),
+        _ => rest.strip_prefix('/').map(Some),
+    }
+}
+
+/// The registry of a dependency and its package, or the scheme in place of a registry's.
+pub(crate) fn dependency_parts(text: &str) -> Result<(PackageKind, &str), &str> {
+    let kinds = [PackageKind::Jsr, PackageKind::Npm];
+    let mut parts = kinds.into_iter().filter_map(|kind| Some((kind, text.strip_prefix(kind.scheme_with_colon())?)));
+    parts.next().ok_or_else(|| text.split_once(':').map_or(text, |(scheme, _)| scheme))
 }
 
 /// The scope of a name, with its `@`.

@@ -127,17 +127,14 @@ impl PackageReqReference {
             let specifier = specifier.to_owned();
             PackageReqReferenceParseError::Invalid(Box::new(PackageReqReferenceInvalidParseError { specifier, source }))
         })?;
-        if path.is_empty() || path == "/" {
-            return Ok(PackageReqReference { req, sub_path: None });
-        }
-        if req.version_req.version_text() == "*" {
-            if let Some((before, version)) = path.rsplit_once('@') {
+        match own::reference_path(path, req.version_req.version_text() != "*") {
+            Ok(path) => Ok(PackageReqReference { req, sub_path: path.map(PackageSubPath::from) }),
+            Err((version, before)) => {
                 let (current, suggested) = (format!("{req}/{path}"), format!("{req}@{version}/{before}"));
                 let error = PackageReqReferenceInvalidWithVersionParseError { kind, current, suggested };
-                return Err(PackageReqReferenceParseError::InvalidPathWithVersion(Box::new(error)));
+                Err(PackageReqReferenceParseError::InvalidPathWithVersion(Box::new(error)))
             }
         }
-        Ok(PackageReqReference { req, sub_path: Some(path.into()) })
     }
 }
 
@@ -208,11 +205,7 @@ impl PackageNvReference {
     fn parse_parts(specifier: &str, kind: PackageKind) -> Option<PackageNvReference> {
         let text = specifier.strip_prefix(kind.scheme_with_colon())?;
         let (nv, rest) = PackageNv::parse(text.strip_prefix('/').unwrap_or(text))?;
-        let sub_path = match rest {
-            "" => None,
-            rest => Some(rest.strip_prefix('/')?.into()),
-        };
-        Some(PackageNvReference { nv, sub_path })
+        Some(PackageNvReference { nv, sub_path: own::version_reference_path(rest)?.map(PackageSubPath::from) })
     }
 
     #[cfg(feature = "url")]
