@@ -196,7 +196,7 @@ pub fn ample(arguments: &[Item], answer: &mut Answer) -> Reported {
             && has_memory(requirement("normal", text, &mut other))
             && has_memory(requirement("strict", text, &mut other))
             && has_memory(Version::parse(text, &mut other))
-            && has_memory(PackageReq::parse(text, &mut other));
+            && has_memory(<PackageReq as Parse>::parse(text, &mut other));
         drop(other);
         longer.push('1')?;
     }

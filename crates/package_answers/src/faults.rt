@@ -9,9 +9,7 @@ use crate::references::{parse as parse_reference, reference_failure, registry_of
 use answers::object::{Object, json_text};
 use deno_semver::ParseFailure;
 use deno_semver::laws::{package_texts_have_one_outcome, references_have_one_outcome};
-use deno_semver::package::{
-    PackageReq, PackageReqPartsParseError, PackageReqReferenceParseError,
-};
+use deno_semver::package::{PackageReq, PackageReqPartsParseError, PackageReqReferenceParseError};
 use semver_req::common::values::Flavour;
 use semver_req::laws::texts_are_rejected_for_one_reason;
 use std::alloc::{AllocError, Global};

@@ -14,9 +14,7 @@ use answers::asking::{Kind, Problem};
 use answers::object::{Object, json_text};
 use deno_semver::ParseFailure;
 use deno_semver::laws::{package_texts_have_one_outcome, requirements_stand_at_one_place};
-use deno_semver::package::{
-    PackageReq, PackageReqPartsParseError, version_req_text,
-};
+use deno_semver::package::{PackageReq, PackageReqPartsParseError, version_req_text};
 use semver_base::lexical::after;
 use semver_req::common::values::Flavour;
 use semver_req::error_places::pieces::invalid_pieces_behind;

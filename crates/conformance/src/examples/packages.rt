@@ -46,9 +46,9 @@ pub fn requirements(answer: &mut Answer) -> Reported {
 
 /// Dependencies made of a package requirement.
 pub fn dependencies(answer: &mut Answer) -> Reported {
-    let jsr = JsrDepPackageReq::jsr(PackageReq::parse("@s/b@^1", answer)?);
+    let jsr = JsrDepPackageReq::jsr(<PackageReq as Parse>::parse("@s/b@^1", answer)?);
     answer.displayed(&jsr)?;
-    let npm = JsrDepPackageReq::npm(PackageReq::parse("c@1", answer)?);
+    let npm = JsrDepPackageReq::npm(<PackageReq as Parse>::parse("c@1", answer)?);
     answer.displayed(&npm)
 }
 
