@@ -5,6 +5,7 @@ use Rattle.semver_req.specs.declared.common.values.Flavour.{Flavour}
 use Rattle.deno_semver.specs.Cuts.{is_not}
 use Rattle.deno_semver.specs.Kind.{scheme_of}
 use Rattle.deno_semver.specs.PackageOutcome.{PackageFault, IsPackageOutcome, ReportsFault}
+use Rattle.deno_semver.specs.Parsed.{IsParsed}
 use Rattle.deno_semver.specs.ReferenceText.{LacksScheme}
 use Rattle.deno_semver.specs.declared.jsr.dependency.JsrDepPackageReq.{JsrDepPackageReq}
 use Rattle.deno_semver.specs.declared.jsr.dependency.JsrDepPackageReqParseError.{JsrDepPackageReqParseError}
@@ -53,6 +54,10 @@ IsDependencyAnswer f text (Ok dependency) result =
     MatchResult result (λ answer. answer ≡ dependency) (λ e. e ≡ error.Memory)
 IsDependencyAnswer f text (Err fault) result =
     IsErrAnd result (λ e. (e ≡ error.Memory) ⊎ ReportsDependency f text fault e)
+
+-- what the parser of dependencies returns
+abbrev pub IsParsedDependency : Flavour → List ℕ → Result JsrDepPackageReq JsrDepPackageReqParseError → Type 0
+IsParsedDependency f text = IsParsed (IsDependencyOutcome f text) (IsDependencyRejection f text) (IsDependencyAnswer f text)
 
 -- ---- steps
 

@@ -16,6 +16,7 @@ pub mod PackagePlaces
 pub mod PackageReading
 pub mod PackageSteps
 pub mod PackageText
+pub mod Parsed
 pub mod ReferenceOutcome
 pub mod ReferenceReading
 pub mod ReferenceText

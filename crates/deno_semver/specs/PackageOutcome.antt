@@ -10,6 +10,7 @@ use Rattle.semver_req.specs.TextRejection.{IsTextRejection}
 use Rattle.semver_req.specs.declared.common.values.Flavour.{Flavour}
 use Rattle.semver_req.specs.declared.common.values.Flavour.TheVariants.{Npm, Normal, Specifier}
 use Rattle.deno_semver.specs.PackageText.{IsPackageText, IsScopeAlone, LacksPart, PackageParts, lacks_at, scoped_name, without_slash}
+use Rattle.deno_semver.specs.Parsed.{IsParsed}
 use Rattle.deno_semver.specs.declared.package.errors.PackageReqPartsParseError.{PackageReqPartsParseError}
 use Rattle.deno_semver.specs.declared.package.errors.PackageReqPartsParseError.TheVariants as parts
 use Rattle.deno_semver.specs.declared.package.errors.PackageReqParseError.{PackageReqParseError}
@@ -100,3 +101,7 @@ abbrev pub IsPackageAnswer : Flavour → List ℕ → Result PackageReq PackageF
     → Type 0
 IsPackageAnswer f text (Ok req) result = MatchResult result (λ answer. answer ≡ req) IsOutOfMemory
 IsPackageAnswer f text (Err fault) result = IsErrAnd result (λ e. IsOutOfMemory e ⊎ ReportsFault f fault text e)
+
+-- what the parser of packages returns
+abbrev pub IsParsedPackage : Flavour → List ℕ → Result PackageReq PackageReqParseError → Type 0
+IsParsedPackage f text = IsParsed (IsPackageOutcome f text) (IsPackageRejection f text) (IsPackageAnswer f text)

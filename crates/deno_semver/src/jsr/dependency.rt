@@ -1,9 +1,9 @@
 //! Dependencies of JSR packages.
 
-ghost use Rattle.std.specs.Prelude.{◌≡◌, ◌↔◌, IfErr, IfOk, IsTrue, Ok, Result, Some, refl};
+ghost use Rattle.std.specs.Prelude.{◌≡◌, ◌↔◌, IfOk, IsTrue, Ok, Result, Some, refl};
 ghost use Rattle.semver_req.specs.declared.common.values.Flavour.TheVariants.{Normal, Npm, Specifier};
 ghost use Rattle.deno_semver.specs.DependencyText.{dependency_text, normal_dependency_text};
-ghost use Rattle.deno_semver.specs.DependencyOutcome.{DependencyFault, IsDependencyAnswer, IsDependencyOutcome, IsDependencyRejection, IsOfPackageError, IsSameError};
+ghost use Rattle.deno_semver.specs.DependencyOutcome.{IsOfPackageError, IsParsedDependency, IsSameError};
 ghost use Rattle.deno_semver.specs.declared.jsr.dependency.JsrDepPackageReq.{JsrDepPackageReq};
 ghost use Rattle.deno_semver.specs.declared.package.values.PackageKind.TheVariants as kind;
 
@@ -79,11 +79,7 @@ fn read(
     text: &str,
     flavour: Flavour,
 ) -> Result<JsrDepPackageReq, JsrDepPackageReqParseError>
-    ensures read { IfOk result (λ d. IsDependencyOutcome flavour text.now (Ok d)) }
-    ensures rejected { IfErr result (IsDependencyRejection flavour text.now) }
-    ensures answer { (outcome : Result JsrDepPackageReq DependencyFault)
-        → IsDependencyOutcome flavour text.now outcome
-        → IsDependencyAnswer flavour text.now outcome result }
+    ensures { IsParsedDependency flavour text.now result }
 {
     let (kind, body) = if let Some(body) = PackageKind::Jsr.after_scheme(text) {
         (PackageKind::Jsr, body)
@@ -133,22 +129,14 @@ impl JsrDepPackageReq {
     /// first `:`, or the whole text. Fails with `PackageReqParse` if what follows the scheme is invalid; the error holds that
     /// text. Otherwise fails only out of memory.
     pub fn from_str(alloc: Global, text: &str) -> Result<Self, JsrDepPackageReqParseError>
-        ensures read { IfOk result (λ d. IsDependencyOutcome Specifier text.now (Ok d)) }
-        ensures rejected { IfErr result (IsDependencyRejection Specifier text.now) }
-        ensures answer { (outcome : Result JsrDepPackageReq DependencyFault)
-            → IsDependencyOutcome Specifier text.now outcome
-            → IsDependencyAnswer Specifier text.now outcome result }
+        ensures { IsParsedDependency Specifier text.now result }
     {
         read(alloc, text, Flavour::Specifier)
     }
 
     /// Parses like [`JsrDepPackageReq::from_str`], but by [`PackageReq::from_str_loose`].
     pub fn from_str_loose(alloc: Global, text: &str) -> Result<Self, JsrDepPackageReqParseError>
-        ensures read { IfOk result (λ d. IsDependencyOutcome Npm text.now (Ok d)) }
-        ensures rejected { IfErr result (IsDependencyRejection Npm text.now) }
-        ensures answer { (outcome : Result JsrDepPackageReq DependencyFault)
-            → IsDependencyOutcome Npm text.now outcome
-            → IsDependencyAnswer Npm text.now outcome result }
+        ensures { IsParsedDependency Npm text.now result }
     {
         read(alloc, text, Flavour::Npm)
     }
@@ -158,11 +146,7 @@ impl JsrDepPackageReq {
         alloc: Global,
         text: &str,
     ) -> Result<Self, JsrDepPackageReqParseError>
-        ensures read { IfOk result (λ d. IsDependencyOutcome Normal text.now (Ok d)) }
-        ensures rejected { IfErr result (IsDependencyRejection Normal text.now) }
-        ensures answer { (outcome : Result JsrDepPackageReq DependencyFault)
-            → IsDependencyOutcome Normal text.now outcome
-            → IsDependencyAnswer Normal text.now outcome result }
+        ensures { IsParsedDependency Normal text.now result }
     {
         read(alloc, text, Flavour::Normal)
     }

@@ -2,7 +2,7 @@
 
 ghost use Rattle.std.specs.Prelude.{◌≡◌, IfErr, IfOk, Ok, Result, string_bytes};
 ghost use Rattle.std.specs.Option.{option_copied};
-ghost use Rattle.deno_semver.specs.PackageOutcome.{PackageFault, IsPackageAnswer, IsPackageOutcome, IsPackageRejection, IsVersionReq, rejected_by};
+ghost use Rattle.deno_semver.specs.PackageOutcome.{IsParsedPackage, IsVersionReq, rejected_by};
 ghost use Rattle.deno_semver.specs.PackageReading.{IsPartsRejection, IsReadPackage};
 ghost use Rattle.deno_semver.specs.declared.package.values.PackageReq.{PackageReq};
 ghost use Rattle.semver_req.specs.declared.common.values.Flavour.TheVariants.{Normal, Npm, Specifier};
@@ -112,11 +112,7 @@ impl PackageReq {
         text: &str,
         flavour: Flavour,
     ) -> Result<PackageReq, PackageReqParseError>
-        ensures read { IfOk result (λ req. IsPackageOutcome flavour text.now (Ok req)) }
-        ensures rejected { IfErr result (IsPackageRejection flavour text.now) }
-        ensures answer { (outcome : Result PackageReq PackageFault)
-            → IsPackageOutcome flavour text.now outcome
-            → IsPackageAnswer flavour text.now outcome result }
+        ensures { IsParsedPackage flavour text.now result }
     {
         texts_have_one_outcome();
         let source = match read(alloc, text, flavour) {
@@ -158,11 +154,7 @@ impl PackageReq {
     /// "Unexpected character '/'", which shows the text from that `/` on. If a text with any of these contains a `/` and
     /// doesn't begin with `@`, it fails with `MissingAtSymbol` instead. Otherwise fails only out of memory.
     pub fn from_str(alloc: Global, text: &str) -> Result<PackageReq, PackageReqParseError>
-        ensures read { IfOk result (λ req. IsPackageOutcome Specifier text.now (Ok req)) }
-        ensures rejected { IfErr result (IsPackageRejection Specifier text.now) }
-        ensures answer { (outcome : Result PackageReq PackageFault)
-            → IsPackageOutcome Specifier text.now outcome
-            → IsPackageAnswer Specifier text.now outcome result }
+        ensures { IsParsedPackage Specifier text.now result }
     {
         PackageReq::parse(alloc, text, Flavour::Specifier)
     }
@@ -170,11 +162,7 @@ impl PackageReq {
     /// Parses like [`PackageReq::from_str`], but with npm's grammar for the version ([`VersionReq::parse_from_npm`]), whose
     /// error it returns as `NpmVersionReq`.
     pub fn from_str_loose(alloc: Global, text: &str) -> Result<PackageReq, PackageReqParseError>
-        ensures read { IfOk result (λ req. IsPackageOutcome Npm text.now (Ok req)) }
-        ensures rejected { IfErr result (IsPackageRejection Npm text.now) }
-        ensures answer { (outcome : Result PackageReq PackageFault)
-            → IsPackageOutcome Npm text.now outcome
-            → IsPackageAnswer Npm text.now outcome result }
+        ensures { IsParsedPackage Npm text.now result }
     {
         PackageReq::parse(alloc, text, Flavour::Npm)
     }
@@ -185,11 +173,7 @@ impl PackageReq {
         alloc: Global,
         text: &str,
     ) -> Result<PackageReq, PackageReqParseError>
-        ensures read { IfOk result (λ req. IsPackageOutcome Normal text.now (Ok req)) }
-        ensures rejected { IfErr result (IsPackageRejection Normal text.now) }
-        ensures answer { (outcome : Result PackageReq PackageFault)
-            → IsPackageOutcome Normal text.now outcome
-            → IsPackageAnswer Normal text.now outcome result }
+        ensures { IsParsedPackage Normal text.now result }
     {
         PackageReq::parse(alloc, text, Flavour::Normal)
     }
