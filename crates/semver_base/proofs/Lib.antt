@@ -17,6 +17,8 @@ pub mod PrecedenceLemmas
 pub mod Qualifiers
 pub mod Replaced
 pub mod ShortTexts
+pub mod SortKeyBytes
+pub mod SortKeys
 pub mod Tokens
 pub mod VersionBytes
 pub mod VersionReading

@@ -28,6 +28,7 @@ pub mod ShortLaws
 pub mod ShortTexts
 pub mod Shortest
 pub mod SolidLaws
+pub mod SortKey
 pub mod Texts
 pub mod TokenLaws
 pub mod ValueLaws

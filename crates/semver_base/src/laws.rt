@@ -5,7 +5,7 @@
 //!
 //! Equal values hash alike: they write the same to every `Hasher`. `equal_hash_alike` says so for each type with `Hash`.
 //!
-//! The last seven laws are about versions, ranges and their texts alone. Their calls do nothing: a caller cites what they
+//! The last eleven laws are about versions, ranges and their texts alone. Their calls do nothing: a caller cites what they
 //! ensure.
 
 ghost use Rattle.std.specs.Prelude.{◌≡◌, ◌↔◌, IsTrue};
@@ -17,6 +17,7 @@ ghost use Rattle.semver_base.specs.Sameness.{ReportsSame, kind_reported, range_b
 ghost use Rattle.semver_base.specs.LowestVersion.{ReadVersionsAreReadable};
 ghost use Rattle.semver_base.specs.NormalTable.{IsNormalTable};
 ghost use Rattle.semver_base.specs.PrecedenceLaws.{version_reported};
+ghost use Rattle.semver_base.specs.SortKey.{NoSortKeyBeginsAnother, SortKeysArePrintable, SortKeysAreShort, SortKeysFollowPrecedence};
 ghost use Rattle.semver_base.specs.VersionText.{VersionTextsAreBare, VersionTextsHaveOneOutcome, VersionTextsReadBack};
 
 use crate::failure::{ParseFailure, ParserError, Rejection};
@@ -142,4 +143,24 @@ pub fn version_texts_are_bare()
 /// The leading bytes that pass a test are as many as `take_while` yields, and the next one, if any, fails it.
 pub fn counted_runs_are_cut()
     ensures { CountedRunsAreCut }
+{}
+
+/// Sort keys compare by bytes as [`Version::cmp_precedence`] compares their versions, for all versions that a text parses to.
+pub fn sort_keys_follow_precedence()
+    ensures { SortKeysFollowPrecedence }
+{}
+
+/// No sort key is the beginning of a longer one, for all versions that a text parses to.
+pub fn no_sort_key_begins_another()
+    ensures { NoSortKeyBeginsAnother }
+{}
+
+/// A sort key is printable ASCII without whitespace, for all versions that a text parses to.
+pub fn sort_keys_are_printable()
+    ensures { SortKeysArePrintable }
+{}
+
+/// The sort key of any version is at most three times as long as its text.
+pub fn sort_keys_are_short()
+    ensures { SortKeysAreShort }
 {}

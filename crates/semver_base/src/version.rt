@@ -271,7 +271,7 @@ fn read(alloc: Global, text: &str) -> Result<Version, ParseFailure>
 
 // The number that an identifier is, if it is one. Its leading zeros but the last are skipped in constant time, so that a
 // number with many zeros compares fast.
-fn number(identifier: &VersionPreOrBuild) -> Option<u64>
+pub(crate) fn number(identifier: &VersionPreOrBuild) -> Option<u64>
     ensures { result ≡ number_of identifier.now }
 {
     let spare = identifier.leading_zeros().saturating_sub(1);
