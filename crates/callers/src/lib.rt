@@ -8,5 +8,6 @@ pub mod lockfile;
 pub mod overlap;
 pub mod packages;
 pub mod requirements;
+pub mod sort_keys;
 pub mod stored;
 pub mod texts;
