@@ -11,6 +11,7 @@ pub fn ask(call: &str, arguments: &[Item], answer: &mut Answer) -> Reported {
         "version-requirement" => versions::version_requirement(arguments, answer),
         "intersects-version" => versions::intersects_version(arguments, answer),
         "precedence" => versions::precedence(arguments, answer),
+        "sort-key" => versions::sort_key(arguments, answer),
         "max-satisfying" | "min-satisfying" => versions::satisfying(call, arguments, answer),
         "order-of" | "equal-of" | "written" => kinds::of_kind(call, arguments, answer),
         "requirement" | "normal" => requirements::of_one(call, arguments, answer),

@@ -46,6 +46,16 @@ pub fn precedence(arguments: &[Item], answer: &mut Answer) -> Reported {
     answer.order(one.cmp_precedence(&other))
 }
 
+/// `sort-key`: the sort keys of two versions, and how the first compares to the second by bytes.
+pub fn sort_key(arguments: &[Item], answer: &mut Answer) -> Reported {
+    let (one, other) = pair(arguments)?;
+    let alloc = answer.alloc;
+    let one = Version::parse(one, answer)?.sort_key(alloc)?;
+    let other = Version::parse(other, answer)?.sort_key(alloc)?;
+    answer.texts(&[one.as_str(), other.as_str()])?;
+    answer.order(one.as_str().cmp(other.as_str()))
+}
+
 /// `max-satisfying` or `min-satisfying`: the index of the highest or lowest version that matches, from 0, or `none`, by the
 /// rule for pre-releases in the arguments, else by npm's; or `tag` and the tag.
 pub fn satisfying(call: &str, arguments: &[Item], answer: &mut Answer) -> Reported {
