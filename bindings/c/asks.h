@@ -32,6 +32,7 @@ typedef struct {
     ask(req_text, REQ, NONE, MESSAGE, one, OUT)                              \
     ask(req_normal, REQ, NONE, MESSAGE, one, OUT)                            \
     ask(version_text, VER, NONE, MESSAGE, one, OUT)                          \
+    ask(version_key, VER, NONE, MESSAGE, one, OUT)                           \
     ask(version_compare, VER, VER, CODE, one, other)                         \
     ask(version_order, VER, VER, CODE, one, other)                           \
     ask(list_filter, LIST, REQ, ITEMS, one, other, pre_releases, ANSWERS)    \

@@ -414,6 +414,7 @@ static const struct call {
     {"text", 1, .held_req = semver_req_text},
     {"version_numbers", 0, .ask = version_numbers},
     {"version", 0, .ask = version, .text = semver_version, .held_version = semver_version_text},
+    {"key", 0, .text = semver_key, .held_version = semver_version_key},
 };
 
 static void ask_held_reqs(const struct call *c, const text *t) {

@@ -129,6 +129,10 @@ int32_t semver_is_tag(uint32_t grammar, const char *range, size_t range_len, cha
 /* How the version is displayed: YES. */
 int32_t semver_version(const char *version, size_t version_len, char *out, size_t out_len, size_t *needed);
 
+/* The sort key of the version: YES. It is printable ASCII without whitespace, the bytes of two keys compare as semver_compare compares their
+ * versions, and no key begins another. So an index over a column of keys sorts versions, if it compares by bytes. */
+int32_t semver_key(const char *version, size_t version_len, char *out, size_t out_len, size_t *needed);
+
 /* The three numbers of a version: YES, if it has neither a pre-release nor a build, or NO, if it has one; then `*needed` is 3, else 0.
  * `numbers` stays as it was if `numbers_len` is less than 3, and for any other code. */
 int32_t semver_version_numbers(const char *version, size_t version_len, uint64_t *numbers, size_t numbers_len, size_t *needed);
@@ -272,6 +276,9 @@ int32_t semver_req_text(const semver_req *handle, char *out, size_t out_len, siz
 /* The canonical form of the range, and how the version is displayed: YES, or NO_MEMORY. */
 int32_t semver_req_normal(const semver_req *handle, char *out, size_t out_len, size_t *needed);
 int32_t semver_version_text(const semver_ver *handle, char *out, size_t out_len, size_t *needed);
+
+/* The sort key of the version: YES, as semver_key, or NO_MEMORY. */
+int32_t semver_version_key(const semver_ver *handle, char *out, size_t out_len, size_t *needed);
 
 /* The order of two versions: as semver_compare. */
 int32_t semver_version_compare(const semver_ver *one, const semver_ver *other);

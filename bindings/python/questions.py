@@ -19,7 +19,7 @@ OPTIONS = {
     **dict.fromkeys(("fits", "filter", "best", "lowest", "within", "equivalent", "common", "common_all", "min_version", "explain"), 2),
     **dict.fromkeys(("overlap", "normal", "package", "equal", "is_tag", "ranges", "dependency", "errors", "package_errors"), 1),
     **dict.fromkeys(("sort", "compare", "order", "version", "version_error", "may_be_tag", "reference", "reference_errors"), 0),
-    **dict.fromkeys(("version_parts", "name_with_version", "version_reference", "export_name"), 0),
+    **dict.fromkeys(("version_parts", "name_with_version", "version_reference", "export_name", "key"), 0),
 }
 
 
@@ -179,6 +179,8 @@ def of_texts(name, texts, options):
         return ["yes", semver.canonical(*texts, **options)]
     if name == "version":
         return ["yes", str(semver.Version(*texts))]
+    if name == "key":
+        return ["yes", semver.Version(*texts).sort_key]
     if name == "may_be_tag":
         return yes_or_no(semver.may_be_tag(*texts))
     if name == "package":
@@ -243,6 +245,8 @@ def of_values(name, texts, options, again):
         return order(int(one > other) - int(one < other))
     if name == "version":
         return ["yes", str(version_of(0))]
+    if name == "key":
+        return ["yes", version_of(0).sort_key]
     return None
 
 

@@ -90,6 +90,12 @@ export class Version {
   get preRelease(): string[];
   /** The identifiers of the build. */
   get build(): string[];
+  /**
+   * The sort key, for a column of a database: printable ASCII without whitespace. The bytes of two keys compare as
+   * {@link Version.compare} compares their versions, and no key begins another.
+   * @example new Version('1.10.0-beta.2').sortKey // 'A1B10A0-$beta!#A22!!'
+   */
+  get sortKey(): string;
   /** -1, 0 or 1: the order by precedence, which ignores the build. */
   compare(other: string | Version): -1 | 0 | 1;
   /** The version as MAJOR.MINOR.PATCH, with its pre-release and build. */

@@ -39,6 +39,12 @@ export class Version {
     return [...this.#fields.build];
   }
 
+  get sortKey() {
+    const code = wasm.key(write(this.#text));
+    if (code === NO_MEMORY) throw outOfMemory();
+    return text();
+  }
+
   compare(other) {
     const order = other instanceof Version ? this.#orderByNumbers(other) : undefined;
     return order ?? compareTexts(this.#text, versionText(other, 'other'));

@@ -91,6 +91,7 @@ static int32_t ask(void) {
     ASK(common_all, FIRST, a, LAST);
     ASK(normal, FIRST, a);
     ASK(version, a);
+    ASK(key, a);
     ASK(explain, FIRST, a, LAST);
     ASK(errors, FIRST, a);
     ASK(package_errors, FIRST, a);

@@ -34,6 +34,7 @@ const CALLS = {
   min_version: ['range', null, (g, a, b, last) => [g, a, last]],
   normal: ['range', null, (g, a) => [g, a]],
   version: ['version', null, (g, a) => [a]],
+  key: ['version', null, (g, a) => [a]],
   package: ['package', null, (g, a) => [g, a]],
   reference: ['reference', null, (g, a) => [a]],
   explain: ['range', null, (g, a, b, last) => [g, a, last]],

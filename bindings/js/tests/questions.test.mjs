@@ -108,6 +108,7 @@ const CALLS = {
   list_sort: (text) => sortedPlaces(linesOf(text), new semver.VersionList(linesOf(text)).sort()),
   compare: (one, other) => orderOf(new Version(one).compare(other)),
   version: (text) => ['yes', String(new Version(text))],
+  key: (text) => ['yes', new Version(text).sortKey],
   version_error: (text) => {
     const error = thrown(() => new Version(text));
     if (error && error.start === undefined) throw error;

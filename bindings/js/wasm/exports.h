@@ -40,6 +40,10 @@ EXPORT(int32_t, version)(uint32_t version_len) {
     WRITES(semver_version(TEXT(0, version_len), OUT, &needed));
 }
 
+EXPORT(int32_t, key)(uint32_t version_len) {
+    WRITES(semver_key(TEXT(0, version_len), OUT, &needed));
+}
+
 EXPORT(int32_t, may_be_tag)(uint32_t text_len) {
     return semver_may_be_tag(TEXT(0, text_len));
 }

@@ -107,6 +107,19 @@ class Version:
         build = self._part(5)
         return tuple(build.split(".")) if build else ()
 
+    @property
+    def sort_key(self) -> str:
+        """The sort key, for a column of a database: printable ASCII without whitespace. Keys compare as `precedes` says, also as bytes, and no
+        key begins another.
+
+        >>> Version("1.10.0-beta.2").sort_key
+        'A1B10A0-$beta!#A22!!'
+        """
+        code, key = read("version_key", self._held.lent())
+        if code != YES:
+            raise MemoryError
+        return key
+
     def __str__(self) -> str:
         return self._text
 

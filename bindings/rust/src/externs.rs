@@ -10,6 +10,7 @@ calls! {
     fn semver_normal(grammar: u32, range: &str, out: &mut [u8], needed: &mut usize) -> i32;
     fn semver_is_tag(grammar: u32, range: &str, out: &mut [u8], needed: &mut usize) -> i32;
     fn semver_version(version: &str, out: &mut [u8], needed: &mut usize) -> i32;
+    fn semver_key(version: &str, out: &mut [u8], needed: &mut usize) -> i32;
     fn semver_may_be_tag(text: &str) -> i32;
     fn semver_filter(grammar: u32, range: &str, versions: &str, pre_releases: u32, answers: &mut [i8], needed: &mut usize) -> i32;
     fn semver_best(grammar: u32, range: &str, versions: &str, pre_releases: u32, place: &mut usize) -> i32;
@@ -35,6 +36,7 @@ calls! {
     fn semver_req_matches_release(handle: &Requirement, major: u64, minor: u64, patch: u64) -> i32;
     fn semver_req_overlap(one: &Requirement, other: &Requirement) -> i32;
     fn semver_version_compare(one: &VersionHandle, other: &VersionHandle) -> i32;
+    fn semver_version_key(handle: &VersionHandle, out: &mut [u8], needed: &mut usize) -> i32;
     fn semver_version_order(one: &VersionHandle, other: &VersionHandle) -> i32;
     fn semver_req_equal(one: &Requirement, other: &Requirement) -> i32;
     fn semver_req_order(one: &Requirement, other: &Requirement) -> i32;

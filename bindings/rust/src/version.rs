@@ -133,6 +133,22 @@ impl Version {
         }
     }
 
+    /// The sort key, for a column of a database: printable ASCII without whitespace, whose bytes compare as the precedence of versions. No
+    /// key begins another, and the build has no part in it.
+    ///
+    /// ```
+    /// # use deno_semver_proved::Version;
+    /// let version = Version::parse_standard("1.10.0-beta.2").unwrap();
+    /// assert_eq!(version.sort_key(), "A1B10A0-$beta!#A22!!");
+    /// ```
+    pub fn sort_key(&self) -> String {
+        let key = text_or_message(|out, needed| match self.qualified() {
+            None => semver_key(&self.release.to_string(), out, needed),
+            Some(qualified) => semver_version_key(qualified.handle(), out, needed),
+        });
+        key.expect("a version has a key")
+    }
+
     /// The range that matches this version alone.
     pub fn into_req(self) -> VersionReq {
         VersionReq::parse_from_normalized(&self.to_string()).expect("a version is a range")

@@ -325,6 +325,7 @@ fn ask(question: &[&str]) -> Option<Answers> {
         ["is_tag", grammar, text] => requirements(grammar, text).and_then(|all| each(all, |req| yes_or_no(req.tag().is_some()))),
         ["ranges", grammar, text] => requirements(grammar, text).and_then(|all| each(all, ranges)),
         ["version", text] => versions(text).and_then(|all| written(all, Version::to_string)),
+        ["key", text] => versions(text).and_then(|all| written(all, Version::sort_key)),
         ["errors", name, text] => return range_error(name, text),
         ["version_error", text] => version_error(text),
         ["version_numbers", text] => versions(text).and_then(|all| each(all, version_numbers)),

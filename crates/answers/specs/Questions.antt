@@ -5,6 +5,7 @@ use Rattle.std.specs.declared.cmp.Ordering.{Ordering}
 use Rattle.semver_base.specs.Containment.{AreEquivalent}
 use Rattle.semver_base.specs.LowestVersion.{IsLowest}
 use Rattle.semver_base.specs.Precedence.{precedence_cmp}
+use Rattle.semver_base.specs.SortKey.{sort_key}
 use Rattle.semver_base.specs.VersionText.{version_text}
 use Rattle.semver_base.specs.declared.range.PreRelease.{PreRelease}
 use Rattle.semver_base.specs.declared.version.Version.{Version}
@@ -118,6 +119,10 @@ Canonical f range = Given (IsRangeAt f 0 range) (λ req. Is (inner_text req.inne
 -- the version as displayed
 abbrev pub Displayed : List ℕ → Result (List ℕ) Fault → Type 0
 Displayed version = Given (IsVersionAt 0 version) (λ v. Is (version_text v))
+
+-- the version's sort key
+abbrev pub SortKeyOf : List ℕ → Result (List ℕ) Fault → Type 0
+SortKeyOf version = Given (IsVersionAt 0 version) (λ v. Is (sort_key v))
 
 -- ---- of two versions, which is before the other
 

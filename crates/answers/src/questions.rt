@@ -7,7 +7,7 @@ ghost use Rattle.std.specs.Prelude.{◌≡◌, IfOk, string_bytes};
 ghost use Rattle.std.specs.Option.{option_copied};
 ghost use Rattle.semver_base.specs.VersionText.{version_text};
 ghost use Rattle.answers.specs.Asking.{IsAnswer};
-ghost use Rattle.answers.specs.Questions.{BestMatch, Canonical, Common, Displayed, Equivalent, Matches, Orders, Outside, Overlaps, better, first_tag};
+ghost use Rattle.answers.specs.Questions.{BestMatch, Canonical, Common, Displayed, Equivalent, Matches, Orders, Outside, Overlaps, SortKeyOf, better, first_tag};
 ghost use Rattle.answers.specs.Reading.{texts_of};
 
 use crate::asking::{Answer, Problem};
@@ -208,6 +208,14 @@ pub fn displayed(alloc: Global, version_text: &str) -> Result<String, Problem>
 {
     let version = version(alloc, 0, version_text)?;
     Ok(text_of_version(alloc, &version)?)
+}
+
+/// What is the sort key of the version?
+pub fn sort_key(alloc: Global, version_text: &str) -> Result<String, Problem>
+    ensures { IsAnswer (SortKeyOf version_text.now) (λ text. string_bytes text) result }
+{
+    let version = version(alloc, 0, version_text)?;
+    Ok(version.sort_key(alloc)?)
 }
 
 /// Which of the two versions comes before the other? The build doesn't matter.

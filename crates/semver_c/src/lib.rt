@@ -8,12 +8,13 @@
 ghost use Rattle.std.specs.Prelude.{◌≡◌, IfSome, IsUtf8, None, ℕ, is_some, length};
 ghost use Rattle.semver_base.specs.Meaning.{release};
 ghost use Rattle.semver_base.specs.Precedence.{precedence_cmp, version_cmp};
+ghost use Rattle.semver_base.specs.SortKey.{sort_key};
 ghost use Rattle.semver_base.specs.VersionText.{version_text};
 ghost use Rattle.semver_req.specs.Requirement.{inner_overlap, inner_text, tag_of};
 ghost use Rattle.semver_req.specs.Tag.{is_valid_tag};
 ghost use Rattle.deno_semver.specs.ReqOrder.{inner_cmp};
 ghost use Rattle.answers.specs.Filtering.{list_matches};
-ghost use Rattle.answers.specs.Questions.{Canonical, Displayed, Orders, Overlaps, match_of};
+ghost use Rattle.answers.specs.Questions.{Canonical, Displayed, Orders, Overlaps, SortKeyOf, match_of};
 ghost use Rattle.answers.specs.Sorting.{SortedLines};
 ghost use Rattle.answers.specs.declared.questions.End.TheVariants as end;
 ghost use Rattle.answers.specs.declared.sorting.Order.TheVariants.{Ascending};
@@ -46,9 +47,9 @@ use handles::{Held, RequirementHandle, VersionHandle, VersionListHandle};
 use questions::{
     best_held, best_line, canonical_form, canonical_held, common, common_of_all, dependency_of,
     displayed_held, displayed_version, equivalent_ranges, errors_of, explanation_of,
-    export_name_of, filter, filter_held, fits, is_tag, lowest, match_code, matches_held,
-    name_with_version_of, names_tag, numbers_of, order_of, outside, overlap, package_errors_of,
-    package_of, ranges_of, read_list, read_package_of, read_range, read_version,
+    export_name_of, filter, filter_held, fits, is_tag, key_held, key_of, lowest, match_code,
+    matches_held, name_with_version_of, names_tag, numbers_of, order_of, outside, overlap,
+    package_errors_of, package_of, ranges_of, read_list, read_package_of, read_range, read_version,
     reference_errors_of, reference_of, sorted_held, sorted_lines, version_error_of,
     version_parts_of, version_reference_of, why_invalid,
 };
@@ -282,6 +283,20 @@ pub extern "C" fn semver_version(
         out.old out.new needed.new result }
 {
     report_text(displayed_version(alloc, version), out, needed)
+}
+
+/// The sort key of the version, whose bytes compare as precedence does: yes.
+#[unsafe(no_mangle)]
+pub extern "C" fn semver_key(
+    alloc: Global,
+    version: &[u8],
+    out: &mut [u8],
+    needed: &mut usize,
+) -> i32
+    ensures { IsReply (OfText version.now SortKeyOf) always_yes (or_message (λ text. text))
+        out.old out.new needed.new result }
+{
+    report_text(key_of(alloc, version), out, needed)
 }
 
 /// Whether the text may be the tag of a version: yes or no.
@@ -856,6 +871,22 @@ pub extern "C" fn semver_version_text(
         out.old out.new needed.new result }
 {
     report_text(displayed_held(alloc, handle.version()), out, needed)
+}
+
+/// The sort key of the version of the handle: 1.
+#[unsafe(no_mangle)]
+pub extern "C" fn semver_version_key(
+    alloc: Global,
+    handle: &mut VersionHandle,
+    out: &mut [u8],
+    needed: &mut usize,
+) -> i32
+    ensures stays { handle.new.value ≡ handle.old.value }
+    ensures text { IsReported always_yes (or_message (λ text. text))
+        (of_one sort_key (version_in handle.old.value))
+        out.old out.new needed.new result }
+{
+    report_text(key_held(alloc, handle.version()), out, needed)
 }
 
 /// The text that the range of the handle was parsed from: 1.

@@ -3,10 +3,11 @@
 ghost use Rattle.std.specs.Prelude.{◌≡◌, IfOk, is_some, string_bytes};
 ghost use Rattle.std.specs.Cow.{cow_str_bytes};
 ghost use Rattle.std.specs.Option.{option_copied, option_map};
+ghost use Rattle.semver_base.specs.SortKey.{sort_key};
 ghost use Rattle.semver_base.specs.VersionText.{version_text};
 ghost use Rattle.semver_req.specs.Requirement.{inner_text, tag_of};
 ghost use Rattle.answers.specs.Filtering.{list_answer, list_matches};
-ghost use Rattle.answers.specs.Questions.{Canonical, Displayed, Orders, Overlaps, match_of};
+ghost use Rattle.answers.specs.Questions.{Canonical, Displayed, Orders, Overlaps, SortKeyOf, match_of};
 ghost use Rattle.answers.specs.Sorting.{SortedLines};
 ghost use Rattle.answers.specs.declared.sorting.Order.TheVariants.{Ascending};
 ghost use Rattle.package_answers.specs.Packages.{IsPackage, PackageParts};
@@ -31,7 +32,7 @@ use answers::filtering::{self, list_best, list_matches, version_lines};
 use answers::parts::{range_parts, version_parts};
 use answers::questions::{
     Best, End, best_match, canonical, common_version, displayed, equivalent, matches, order,
-    overlaps, text_of_version, version_outside,
+    overlaps, sort_key, text_of_version, version_outside,
 };
 use answers::reading::{range, version};
 use answers::sorting::{self, Order, sort};
@@ -302,6 +303,14 @@ pub fn displayed_version(alloc: Global, version: &[u8]) -> Result<String, Proble
     displayed(alloc, text).map_err(Problem::from)
 }
 
+/// What is the sort key of the version?
+pub fn key_of(alloc: Global, version: &[u8]) -> Result<String, Problem>
+    ensures { IsCallAnswer (OfText version.now SortKeyOf) string_bytes result }
+{
+    let text = text(version)?;
+    sort_key(alloc, text).map_err(Problem::from)
+}
+
 /// What are the parts of the package?
 pub fn package_of(alloc: Global, grammar: u32, bytes: &[u8]) -> Result<String, Problem>
     ensures { IsCallAnswer (ByOne grammar bytes.now PackageParts) string_bytes result }
@@ -484,6 +493,16 @@ pub fn displayed_held(alloc: Global, version: Option<&Version>) -> Result<String
 {
     match version {
         Some(version) => text_of_version(alloc, version).map_err(Problem::from),
+        None => Err(Problem::NoValue),
+    }
+}
+
+/// What is the sort key of the version?
+pub fn key_held(alloc: Global, version: Option<&Version>) -> Result<String, Problem>
+    ensures { IsCallOutcome (of_one sort_key (option_copied version.entry)) string_bytes result }
+{
+    match version {
+        Some(version) => version.sort_key(alloc).map_err(Problem::from),
         None => Err(Problem::NoValue),
     }
 }
