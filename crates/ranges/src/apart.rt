@@ -1,6 +1,6 @@
-//! Which of many ranges don't overlap.
+//! Which of many ranges have no version in common.
 
-use deno_semver::{RangeBound, VersionRange, VersionReq};
+use deno_semver::{PreRelease, RangeBound, VersionRange, VersionReq};
 use std::alloc::{AllocError, Global};
 
 // The range of a requirement that has a single one.
@@ -11,8 +11,49 @@ fn only_range(req: &VersionReq) -> Option<&VersionRange> {
     }
 }
 
-// Whether it was seen at once that all overlap: each has a range that overlaps what those before it have in common.
-fn have_common_range(alloc: Global, reqs: &[VersionReq]) -> Result<bool, AllocError> {
+// Whether the lowest version that the range matches does so by the bounds alone. Pre-releases don't where they are restricted.
+fn has_plain_match(
+    alloc: Global,
+    range: &VersionRange,
+    pre_release: PreRelease,
+) -> Result<bool, AllocError> {
+    Ok(match range.min_version(alloc, pre_release)? {
+        Some(lowest) => pre_release == PreRelease::Admitted || lowest.pre.is_empty(),
+        None => false,
+    })
+}
+
+// The range of a requirement that has a single one, with such a match.
+fn plain_range<'r>(
+    alloc: Global,
+    req: &'r VersionReq,
+    pre_release: PreRelease,
+) -> Result<Option<&'r VersionRange>, AllocError> {
+    match only_range(req) {
+        Some(range) if has_plain_match(alloc, range, pre_release)? => Ok(Some(range)),
+        _ => Ok(None),
+    }
+}
+
+// Whether some version matches both, or both are the same tag.
+fn have_common_version(
+    alloc: Global,
+    one: &VersionReq,
+    other: &VersionReq,
+    pre_release: PreRelease,
+) -> Result<bool, AllocError> {
+    if one.tag().is_some() || other.tag().is_some() || !one.intersects(other) {
+        return Ok(one.intersects(other));
+    }
+    Ok(one.common_version(alloc, other, pre_release)?.is_some())
+}
+
+// Whether it was seen at once that all have a common version: each has a range that overlaps what those before it have in common.
+fn have_common_range(
+    alloc: Global,
+    reqs: &[VersionReq],
+    pre_release: PreRelease,
+) -> Result<bool, AllocError> {
     let mut common = VersionRange::all();
     for req in reqs {
         let Some(set) = req.range() else {
@@ -24,31 +65,48 @@ fn have_common_range(alloc: Global, reqs: &[VersionReq]) -> Result<bool, AllocEr
         };
         common = common.clamp(alloc, range)?;
     }
-    Ok(true)
+    has_plain_match(alloc, &common, pre_release)
 }
 
-// The requirements behind a place. A range overlaps all single ranges among them if it overlaps two: one from the highest of their
-// starts on, and one up to the lowest of their ends.
+// The requirements behind a place. A single range has a version in common with each plain one among them if it has one from the highest of
+// their starts on, and one up to the lowest of their ends: one of the two is in the other range, or that one's own lies between them.
 #[derive(Drop)]
 struct Behind<'r> {
+    pre_release: PreRelease,
     from: VersionRange,
     up_to: VersionRange,
-    /// Those that are several ranges, or a tag.
+    /// Those that are several ranges, or a tag, or have no plain match.
     others: Vec<&'r VersionReq>,
 }
 
 impl<'r> Behind<'r> {
-    fn overlap(&self, req: &VersionReq, behind: &[VersionReq]) -> bool {
-        match only_range(req) {
-            Some(range) => range.intersects_range(&self.from)
-                && range.intersects_range(&self.up_to)
-                && self.others.iter().all(|other| req.intersects(other)),
-            None => behind.iter().all(|other| req.intersects(other)),
+    fn overlap(
+        &self,
+        alloc: Global,
+        req: &VersionReq,
+        behind: &[VersionReq],
+    ) -> Result<bool, AllocError> {
+        if let Some(range) = only_range(req)
+            && has_plain_match(alloc, &range.clamp(alloc, &self.from)?, self.pre_release)?
+            && has_plain_match(alloc, &range.clamp(alloc, &self.up_to)?, self.pre_release)?
+        {
+            for other in self.others.iter() {
+                if !have_common_version(alloc, req, other, self.pre_release)? {
+                    return Ok(false);
+                }
+            }
+            return Ok(true);
         }
+        for other in behind {
+            if !have_common_version(alloc, req, other, self.pre_release)? {
+                return Ok(false);
+            }
+        }
+        Ok(true)
     }
 
     fn add(&mut self, alloc: Global, req: &'r VersionReq) -> Result<(), AllocError> {
-        let Some(range) = only_range(req) else {
+        let Some(range) = plain_range(alloc, req, self.pre_release)? else {
             return Ok(self.others.push(req)?);
         };
         self.from = VersionRange {
@@ -63,17 +121,19 @@ impl<'r> Behind<'r> {
     }
 }
 
-/// The texts of the first two ranges that don't overlap. The time grows with the number of ranges, and with its square only where many
-/// have several alternatives and nothing in common.
+/// The texts of the first two ranges that no version matches both of. The time grows with the number of ranges, and with its square only
+/// where many have several alternatives, or only pre-releases, and nothing in common.
 pub fn first_apart<'a>(
     alloc: Global,
     texts: &[&'a str],
     reqs: &[VersionReq],
+    pre_release: PreRelease,
 ) -> Result<Option<(&'a str, &'a str)>, AllocError> {
-    if have_common_range(alloc, reqs)? {
+    if have_common_range(alloc, reqs, pre_release)? {
         return Ok(None);
     }
     let mut behind = Behind {
+        pre_release,
         from: VersionRange::all(),
         up_to: VersionRange::all(),
         others: Vec::new(alloc),
@@ -81,7 +141,7 @@ pub fn first_apart<'a>(
     let mut first = None;
     let mut place = reqs.len();
     for req in reqs.iter().rev() {
-        if !behind.overlap(req, reqs.get(place..).unwrap_or(&[])) {
+        if !behind.overlap(alloc, req, reqs.get(place..).unwrap_or(&[]))? {
             first = Some((place, req));
         }
         behind.add(alloc, req)?;
@@ -92,7 +152,7 @@ pub fn first_apart<'a>(
     };
     let text = texts.get(behind.saturating_sub(1)).copied().unwrap_or("");
     for (other_text, other) in texts.iter().zip(reqs).skip(behind) {
-        if !req.intersects(other) {
+        if !have_common_version(alloc, req, other, pre_release)? {
             return Ok(Some((text, *other_text)));
         }
     }

@@ -4,12 +4,13 @@ use crate::apart::first_apart;
 use crate::errors::{add_first, errors_of, print_errors};
 use answers::asking::{Answer, Kind, Problem};
 use answers::object::Object;
-use answers::questions::{common_version, text_of_version, version_outside};
+use answers::questions::{common_version, order, text_of_version, version_outside};
 use answers::reading::{range, ranges};
 use clap::ArgMatches;
 use deno_semver::Version;
 use serde_json::Value;
 use std::alloc::{AllocError, Global};
+use std::cmp::Ordering;
 use std::io::Write;
 use terminal::console::{Console, Status, Stop, print_line};
 use terminal::shown::{Quoted, Shown};
@@ -140,17 +141,39 @@ pub fn within<O: Write, E: Write>(
     Ok(Status::of(lowest.is_none()))
 }
 
-/// `ranges overlap RANGE RANGE..`: `yes` if the bounds of any two ranges overlap, or `no` and the first two that don't.
+/// `ranges compare ONE OTHER`: `<`, `=` or `>`, as the first version comes before the other, is equal, or comes behind it.
+pub fn compare<O: Write, E: Write>(
+    console: &mut Console<O, E>,
+    matches: &ArgMatches<'_>,
+) -> Result<Status, Stop> {
+    let one = matches.get_str("ONE").unwrap_or("");
+    let other = matches.get_str("OTHER").unwrap_or("");
+    let sign = match order(console.alloc, one, other) {
+        Ok(Ordering::Less) => "<",
+        Ok(Ordering::Equal) => "=",
+        Ok(Ordering::Greater) => ">",
+        Err(problem) => return reject(console, &[one, other], &problem),
+    };
+    if console.options.json {
+        console.json(field_json(console.alloc, "order", Some(sign)))?;
+    } else {
+        print_line(&mut console.out, sign)?;
+    }
+    Ok(Status::Answered)
+}
+
+/// `ranges overlap RANGE RANGE..`: `yes` if any two ranges match a version in common, or `no` and the first two that don't.
 pub fn overlap<O: Write, E: Write>(
     console: &mut Console<O, E>,
     matches: &ArgMatches<'_>,
 ) -> Result<Status, Stop> {
     let texts = matches.get_strs("RANGE").unwrap_or(&[]);
-    let apart = match ranges(console.alloc, console.options.flavour, texts) {
-        Ok(ranges) => first_apart(console.alloc, texts, ranges.as_slice())?,
+    let options = console.options;
+    let apart = match ranges(console.alloc, options.flavour, texts) {
+        Ok(ranges) => first_apart(console.alloc, texts, ranges.as_slice(), options.pre_release)?,
         Err(problem) => return reject(console, texts, &problem),
     };
-    if console.options.json {
+    if options.json {
         let alloc = console.alloc;
         let json = Object::new(alloc).put("overlap", Ok(Value::Bool(apart.is_none())));
         let json = match apart {

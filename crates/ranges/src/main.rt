@@ -45,6 +45,7 @@ fn answer<R: Input + Files + AllocGlobal, O: Write, E: Write>(
         "common" | "min" => comparing::common(console, matches),
         "within" => comparing::within(console, matches),
         "overlap" => comparing::overlap(console, matches),
+        "compare" => comparing::compare(console, matches),
         "package" => packaged::report_package(console, matches),
         "reference" => packaged::report_reference(console, matches),
         _ => Ok(Status::Usage),

@@ -193,6 +193,18 @@ const OLD: Argument = Argument {
     help: "The old range",
 };
 
+const ONE: Argument = Argument {
+    name: "ONE",
+    form: Form::Text,
+    help: "The first version",
+};
+
+const OTHER: Argument = Argument {
+    name: "OTHER",
+    form: Form::Text,
+    help: "The other version",
+};
+
 const VERSIONS: Argument = Argument {
     name: "VERSION",
     form: Form::Texts(0),
@@ -250,7 +262,10 @@ const MATCHING: &[Argument] = &[
     MORE_RANGES,
 ];
 
-const COMMANDS: [Entry; 13] = [
+// A command that has another name, and that name.
+const ALIAS: (&str, &str) = ("filter", "matches");
+
+const COMMANDS: [Entry; 14] = [
     Entry {
         name: "check",
         about: "Check the ranges of package.json, deno.json and import maps",
@@ -307,8 +322,8 @@ Examples:
     },
     Entry {
         name: "overlap",
-        about: "Check whether the bounds of every two of the ranges overlap",
-        arguments: &[JSON, GRAMMAR, QUIET, TWO_RANGES],
+        about: "Check whether every two of the ranges match a version in common",
+        arguments: &[JSON, GRAMMAR, PRE, QUIET, TWO_RANGES],
         examples: "\
 Examples:
   ranges overlap '^1.2' '>=1.5 <3'
@@ -321,6 +336,7 @@ Examples:
         examples: "\
 Examples:
   ranges filter '^1.2' 1.1.9 1.2.0 1.10.0
+  ranges matches --quiet '^1.2' 1.3.0
   npm view react versions --json | ranges filter '^18'",
     },
     Entry {
@@ -350,6 +366,15 @@ Examples:
 Examples:
   ranges outdated '^1.2' 1.2.0 1.10.0 2.0.0
   npm view react versions --json | ranges outdated '^17'",
+    },
+    Entry {
+        name: "compare",
+        about: "Print whether a version comes before another (<), is equal (=) or comes behind it (>)",
+        arguments: &[JSON, ONE, OTHER],
+        examples: "\
+Examples:
+  ranges compare 1.9.0 1.10.0
+  ranges compare --json 1.0.0-rc.1 1.0.0",
     },
     Entry {
         name: "sort",
@@ -385,6 +410,9 @@ fn command<'a>(alloc: Global, entry: &Entry) -> Result<Command<'a>, AllocError> 
         .about(entry.about)
         .after_help(entry.examples)
         .version(VERSION);
+    if entry.name == ALIAS.0 {
+        command = command.visible_alias(ALIAS.1)?;
+    }
     for argument in entry.arguments {
         let arg = match argument.form {
             Form::Flag(short) => option(alloc, argument, short).action(ArgAction::SetTrue),
