@@ -201,7 +201,14 @@ impl Report<'_> {
         }
         print_line(&mut console.out, message.as_str())?;
         match finding.errors {
-            Some(errors) => { print_errors(&mut console.out, style, entry.text.as_str(), errors) }
+            Some(errors) => {
+                let grammar = match entry.kind {
+                    Kind::Specifier => Flavour::Specifier,
+                    Kind::Range | Kind::Mistake(_) => Flavour::Npm,
+                };
+                let text = entry.text.as_str();
+                print_errors(&mut console.out, style, text, errors, Some(grammar))
+            }
             None => Ok(()),
         }
     }

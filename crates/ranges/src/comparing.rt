@@ -8,6 +8,7 @@ use answers::questions::{common_version, order, text_of_version, version_outside
 use answers::reading::{range, ranges};
 use clap::ArgMatches;
 use deno_semver::Version;
+use semver_req::common::values::Flavour;
 use serde_json::Value;
 use std::alloc::{AllocError, Global};
 use std::cmp::Ordering;
@@ -44,8 +45,14 @@ pub fn reject<O: Write, E: Write>(
         return Ok(Status::Rejected);
     }
     let status = console.complain(format_args!("{kind} {}", Quoted(argument)), message);
+    let grammar = match invalid.kind {
+        Kind::Range | Kind::Package => Some(console.options.flavour),
+        Kind::Reference => Some(Flavour::Specifier),
+        Kind::Version => None,
+    };
+    let style = console.terminal.err;
     // What can't be written to standard error is left out.
-    let _ = print_errors(&mut console.err, console.terminal.err, argument, &errors);
+    let _ = print_errors(&mut console.err, style, argument, &errors, grammar);
     Ok(status)
 }
 

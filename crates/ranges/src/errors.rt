@@ -42,17 +42,18 @@ pub fn errors_of(
     }
 }
 
-/// Prints a text with carets under the places of its errors.
+/// Prints a text with carets under the places of its errors: of ranges in this grammar, or of a version.
 pub fn print_errors<O: Write>(
     out: &mut O,
     style: Style,
     text: &str,
     errors: &PackageErrors,
+    grammar: Option<Flavour>,
 ) -> Result<(), Stop> {
     match errors {
         PackageErrors::Range(errors) => {
             for error in errors {
-                print_error(out, style, text, error)?;
+                print_error(out, style, text, error, grammar)?;
             }
             Ok(())
         }

@@ -162,7 +162,7 @@ fn report_pieces<O: Write, E: Write>(
             )?;
             let (error, behind) = next_error(&piece.meaning, errors);
             if let Some(error) = error {
-                print_error(&mut console.out, style, text, error)?;
+                print_error(&mut console.out, style, text, error, Some(options.flavour))?;
             }
             errors = behind;
         }

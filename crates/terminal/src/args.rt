@@ -369,7 +369,7 @@ Examples:
     },
     Entry {
         name: "compare",
-        about: "Print whether a version comes before another (<), is equal (=) or comes behind it (>)",
+        about: "Print <, = or > for the order of two versions",
         arguments: &[JSON, ONE, OTHER],
         examples: "\
 Examples:

@@ -1,5 +1,11 @@
 //! What to write in place of usual mistakes. These are guesses, and tested alone.
 
+use crate::pointing::part;
+use crate::shown::Shown;
+use semver_req::common::values::Flavour;
+use semver_req::error_places::pieces::InvalidPiece;
+use std::fmt;
+
 // What package.json has in place of a range.
 const PROTOCOLS: [&str; 11] = [
     "workspace:",
@@ -20,71 +26,369 @@ pub fn is_protocol(text: &str) -> bool {
     PROTOCOLS.iter().any(|protocol| text.starts_with(*protocol))
 }
 
-// Texts that show what is meant, and the hint for each.
-const PHRASES: [(&str, &str); 7] = [
-    (
-        "!=",
-        "no operator means `not`: write two ranges, such as `<1.2 || >1.2`",
-    ),
-    ("between", "write `1 - 2` for the versions between 1 and 2"),
-    (" or ", "write `||` for `or`"),
-    (" and ", "write a space for `and`"),
-    (" to ", "write ` - ` for `to`"),
-    ("@", "leave the package's name out: the range follows `@`"),
-    ("(", "ranges have no parentheses"),
+// How a text in quotes begins or ends.
+const QUOTES: [char; 7] = [
+    '"', '\'', '`', '\u{201c}', '\u{201d}', '\u{2018}', '\u{2019}',
 ];
 
-// How a text that isn't a range begins, and the hint for it.
-const FRONTS: [(&str, &str); 4] = [
-    ("\"", "leave the quotes out"),
-    ("'", "leave the quotes out"),
-    ("[", "ranges have no brackets: write `>=` and `<`"),
-    ("V", "write `v`, or leave it out"),
-];
+// Dashes that are no `-`.
+const DASHES: [char; 5] = ['\u{2010}', '\u{2011}', '\u{2013}', '\u{2014}', '\u{2212}'];
+
+// A longer text isn't repeated in a hint.
+const LONG: usize = 60;
+
+/// What to write in place of a mistake.
+#[derive(Clone, Copy)]
+pub enum Suggestion<'a> {
+    /// A sentence.
+    Says(&'static str),
+    /// What to write: a part of the text, what is missing behind it, and another part.
+    Write(&'a str, &'static str, &'a str),
+}
+
+impl fmt::Display for Suggestion<'_> {
+    fn fmt<W: fmt::Write>(&self, f: &mut fmt::Formatter<W>) -> fmt::Result {
+        match self {
+            Suggestion::Says(text) => f.write_str(text),
+            Suggestion::Write(one, middle, other) => {
+                write!(f, "write `{}{middle}{}`", Shown(one), Shown(other))
+            }
+        }
+    }
+}
+
+// A place in an alternative.
+#[derive(Clone, Copy)]
+struct Mistake<'a> {
+    /// What stands before the place, from the start of the alternative on.
+    before: &'a str,
+    next: char,
+    /// What stands from the place on.
+    rest: &'a str,
+    /// What stands behind `next`.
+    behind: &'a str,
+    /// The comparator up to the place.
+    front: &'a str,
+    /// What stands in it behind `next`.
+    tail: &'a str,
+}
+
+fn ends_comparator(c: char) -> bool {
+    c.is_whitespace() || matches!(c, ',' | '|' | '&')
+}
 
 fn is_operator(c: char) -> bool {
     matches!(c, '<' | '>' | '=' | '^' | '~')
 }
 
-/// A hint for an invalid alternative that leaves its grammar at a place.
-pub fn hint(piece: &str, place: usize) -> Option<&'static str> {
-    let (before, next) = (piece.get(..place)?, piece.get(place..)?.chars().next()?);
-    let piece = piece.trim();
+fn is_of_version(c: char) -> bool {
+    c.is_ascii_alphanumeric() || matches!(c, '.' | '*' | '-' | '+')
+}
+
+// Whether a version, perhaps a partial one, begins with the character.
+fn begins_version(c: char) -> bool {
+    c.is_ascii_digit() || matches!(c, 'v' | 'x' | 'X' | '*')
+}
+
+fn looks_like_digit(c: char) -> bool {
+    matches!(c, 'l' | 'I' | 'O' | 'o')
+}
+
+// Whether the text looks like one version, perhaps a partial one.
+fn is_version(text: &str) -> bool {
+    text.starts_with(begins_version) && text.chars().all(is_of_version)
+}
+
+// Whether the text looks like one comparator.
+fn is_comparator(text: &str) -> bool {
+    let version = text.trim_start_matches(is_operator);
+    version.starts_with(begins_version) && version.chars().all(is_of_version)
+}
+
+// Whether the text is a pre-release, a build, or both.
+fn is_qualifier(text: &str) -> bool {
+    let parts = ['.', '+'].as_slice();
+    text.split(parts).all(|part| {
+        !part.is_empty() && part.chars().all(|c| c.is_ascii_alphanumeric() || c == '-')
+    }) && text.split('+').count() <= 2
+}
+
+impl<'a> Mistake<'a> {
+    fn new(piece: &'a str, place: usize) -> Option<Mistake<'a>> {
+        let (before, rest) = (piece.get(..place)?, piece.get(place..)?);
+        let next = rest.chars().next()?;
+        let behind = rest.get(next.len_utf8()..)?;
+        Some(Mistake {
+            before,
+            next,
+            rest,
+            behind,
+            front: before.rsplit(ends_comparator).next().unwrap_or(""),
+            tail: behind.split(ends_comparator).next().unwrap_or(""),
+        })
+    }
+
+    // The version that the comparator has so far.
+    fn version(&self) -> &'a str {
+        self.front.trim_start_matches(is_operator)
+    }
+
+    // What holds of a version, too.
+    fn in_version(&self) -> Option<&'static str> {
+        let whole = (self.before.trim_start(), self.behind.trim_end());
+        let has_front = whole.0.starts_with(QUOTES.as_slice());
+        if has_front || QUOTES.as_slice().contains(&self.next) {
+            return Some("leave the quotes out");
+        }
+        let version = self.version();
+        // Behind a qualifier begins no fourth number.
+        let has_qualifier = version.contains(['-', '+'].as_slice());
+        let has_numbers = !has_qualifier && version.split('.').count() == 3;
+        let is_followed = self.behind.trim_start().starts_with(begins_version);
+        match self.next {
+            'V' if version.is_empty() && is_followed => Some("write `v`, or leave it out"),
+            '.' if self.behind.starts_with('.') => None,
+            '.' if self.before.ends_with(' ') => Some("leave out the space before `.`"),
+            '.' if has_numbers => Some("a version has three numbers"),
+            c if c.is_whitespace() && version.ends_with('.') && is_followed => {
+                Some("leave out the space after `.`")
+            }
+            '_' if version.contains('+') => Some("a build has letters, digits, `-` and `.`"),
+            '_' if has_qualifier => Some("a pre-release has letters, digits, `-` and `.`"),
+            _ => None,
+        }
+    }
+
+    // What a comparator lacks, whichever the grammar is.
+    fn in_comparator(&self) -> Option<Suggestion<'a>> {
+        let (front, tail, version) = (self.front, self.tail, self.version());
+        let count = version.split('.').count();
+        let is_number = |part: &str| !part.is_empty() && part.chars().all(|c| c.is_ascii_digit());
+        let has_numbers = version.split('.').all(is_number);
+        let missing = match (self.next, count) {
+            ('-', 1) => ".0.0-",
+            ('-', 2) => ".0-",
+            ('+', 1) => ".0.0+",
+            ('+', 2) => ".0+",
+            (_, _) => "",
+        };
+        let is_qualified = is_qualifier(tail) && !tail.starts_with(|c: char| c.is_ascii_digit());
+        if has_numbers && is_qualified && !missing.is_empty() {
+            return Some(Suggestion::Write(front, missing, tail));
+        }
+        let digit = match self.next {
+            'O' | 'o' => "0",
+            'I' | 'l' => "1",
+            _ => return None,
+        };
+        let follows = front.ends_with(|c: char| c.is_ascii_digit() || c == '.' || is_operator(c));
+        let numbers = count
+            .saturating_add(tail.split('.').count())
+            .saturating_sub(1);
+        let is_rest = |c: char| c.is_ascii_digit() || c == '.';
+        if !follows || numbers > 3 {
+            None
+        } else if tail.chars().all(is_rest) && !tail.ends_with('.') {
+            Some(Suggestion::Write(front, digit, tail))
+        } else if tail.chars().all(|c| is_rest(c) || looks_like_digit(c)) {
+            Some(Suggestion::Says("write digits for the letters"))
+        } else {
+            None
+        }
+    }
+
+    // A range with `-` in another form.
+    fn as_hyphen(&self) -> Option<Suggestion<'a>> {
+        let (before, behind) = (self.before, self.behind);
+        let (one, other) = match self.next {
+            // `1.2- 2` and `1.2-2`.
+            '-' => (before, behind),
+            // `1.2.3- 2`
+            c if c.is_whitespace() && before.ends_with('-') => (before.strip_suffix('-')?, behind),
+            '.' if behind.starts_with('.') => (before, behind.trim_start_matches('.')),
+            c if DASHES.as_slice().contains(&c) => (before, behind),
+            // `1.2.3 -2`
+            _ if before.ends_with(" -") => (before.strip_suffix('-')?, self.rest),
+            _ => return None,
+        };
+        let (one, other) = (one.trim(), other.trim());
+        if is_version(one) && is_version(other) {
+            Some(Suggestion::Write(one, " - ", other))
+        } else {
+            None
+        }
+    }
+
+    // A word in place of a sign, at the place.
+    fn as_word(&self, has_hyphen: bool) -> Option<&'static str> {
+        let is_between = self.front.is_empty() && self.before.trim_end().ends_with(is_of_version);
+        if !is_between || self.behind.trim().len() <= self.tail.len() {
+            return None;
+        }
+        match (self.next, self.tail) {
+            ('o' | 'O', "r" | "R") => Some("write `||` for `or`"),
+            ('a' | 'A', "nd" | "ND") => Some("write a space for `and`"),
+            ('t' | 'T', "o" | "O") if has_hyphen => Some("write ` - ` for `to`"),
+            (_, _) => None,
+        }
+    }
+
+    // A sign in place of another, or where none can be.
+    fn as_sign(&self, flavour: Flavour) -> Option<&'static str> {
+        let before = self.before;
+        let ahead = before.trim_end();
+        let follows_word = before.ends_with(|c: char| c.is_ascii_alphanumeric() || c == '*');
+        let is_followed = (self.behind.trim_start_matches(is_operator).trim_start()).starts_with(
+            begins_version,
+        );
+        let has_equals = before.ends_with('=')
+            && !before.ends_with(">=")
+            && !before.ends_with("<=")
+            && !before.ends_with("==");
+        match self.next {
+            '>' if has_equals => Some("write `>=`"),
+            '<' if has_equals => Some("write `<=`"),
+            c if is_operator(c) && before.ends_with(is_operator) => Some("write one operator"),
+            '=' if ahead.len() < before.len() && ahead.ends_with(['<', '>'].as_slice()) => {
+                Some("leave out the space before `=`")
+            }
+            c if is_operator(c) && follows_word && is_followed => {
+                Some("put a space between two comparators")
+            }
+            ',' | '&' if before.ends_with(',') => Some("write one separator"),
+            ',' | '&' if flavour == Flavour::Normal => Some("put a space between two comparators"),
+            c if c != '|' && before.ends_with('|') => Some("write `||`"),
+            c if c != '&' && before.ends_with('&') => Some("write a space for `&`"),
+            ';' => Some("write `||` for `or`, a space for `and`"),
+            '\u{2265}' => Some("write `>=`"),
+            '\u{2264}' => Some("write `<=`"),
+            _ => None,
+        }
+    }
+}
+
+// A range behind the name of a package.
+fn named(piece: &str) -> Option<Suggestion<'_>> {
+    let (name, range) = piece.trim().split_once(' ')?;
+    let is_name = |c: char| c.is_ascii_alphanumeric() || matches!(c, '@' | '/' | '-' | '_' | '.');
+    let is_front = |c: char| c == '@' || c.is_ascii_alphabetic();
+    let is_named = name.chars().take(2).all(is_front) && name.chars().all(is_name);
+    let range = range.trim();
+    if is_named && name.len() > 1 && name != LATEST && is_comparator(range) {
+        Some(Suggestion::Write("", "", range))
+    } else {
+        None
+    }
+}
+
+// Whether the text may be a tag, and no version is meant.
+fn is_word(text: &str) -> bool {
+    text.len() > 1
+        && text.chars().take(2).all(|c| c.is_ascii_alphabetic())
+        && (text.chars()).all(|c| c.is_ascii_alphanumeric() || matches!(c, '-' | '_' | '.'))
+}
+
+// What is meant by an alternative as a whole.
+fn of_range(piece: &str, mistake: Mistake<'_>, has_hyphen: bool) -> Option<&'static str> {
+    if piece.starts_with("between ") && has_hyphen {
+        Some("write `1 - 2` for the versions between 1 and 2")
+    } else if piece.contains("!=") || matches!(mistake.next, '!' | '\u{2260}') {
+        Some("no operator means `not`: write two ranges, such as `<1.2 || >1.2`")
+    } else if piece.starts_with('[') || matches!(mistake.next, '[' | ']') {
+        Some("ranges have no brackets: write `>=` and `<`")
+    } else if piece.contains('(') || mistake.next == ')' {
+        Some("ranges have no parentheses")
+    } else if piece.contains('@') {
+        Some("leave the package's name out: the range follows `@`")
+    } else {
+        None
+    }
+}
+
+// A hint for an alternative of a range.
+fn in_range<'a>(
+    text: &'a str,
+    error: &InvalidPiece,
+    mistake: Mistake<'a>,
+    flavour: Flavour,
+) -> Option<Suggestion<'a>> {
+    let whole = part(text, error.start, error.end);
+    let piece = whole.trim();
     if is_protocol(piece) {
-        return Some("this is a protocol of package.json, not a range");
+        return Some(Suggestion::Says("this is a protocol of package.json, not a range"));
     }
-    if piece.ends_with(".txt") || piece.ends_with(".json") {
-        return Some("to read versions from a file, write `<` before its name");
+    if piece.starts_with('V') && piece.chars().nth(1).is_some_and(begins_version) {
+        return Some(Suggestion::Says("write `v`, or leave it out"));
     }
-    for (front, hint) in &FRONTS {
-        if piece.starts_with(*front) {
-            return Some(*hint);
-        }
+    let has_hyphen = flavour == Flavour::Npm;
+    if has_hyphen && let Some(suggestion) = mistake.as_hyphen() {
+        return Some(suggestion);
     }
-    for (phrase, hint) in &PHRASES {
-        if piece.contains(*phrase) {
-            return Some(*hint);
-        }
+    let says = (mistake.as_sign(flavour))
+        .or_else(|| mistake.as_word(has_hyphen))
+        .or_else(|| of_range(piece, mistake, has_hyphen));
+    if let Some(says) = says {
+        return Some(Suggestion::Says(says));
     }
-    let is_of_version = |c: char| c.is_ascii_alphanumeric() || ".*-+".contains(c);
-    let version = before
-        .rsplit(|c: char| !is_of_version(c))
-        .next()
-        .unwrap_or("");
-    // Behind a qualifier begins no fourth number.
-    let has_numbers = !version.contains(['-', '+'].as_slice()) && version.split('.').count() == 3;
-    let follows_word = before.ends_with(|c: char| c.is_ascii_alphanumeric() || c == '*');
-    match next {
-        '.' if before.ends_with(' ') => Some("leave out the space before `.`"),
-        '.' if has_numbers => Some("a version has three numbers"),
-        '>' if before.ends_with('=') => Some("write `>=`"),
-        '<' if before.ends_with('=') => Some("write `<=`"),
-        c if is_operator(c) && before.ends_with(is_operator) => Some("write one operator"),
-        c if is_operator(c) && follows_word => Some("put a space between two comparators"),
-        ',' | '&' if before.ends_with(',') => Some("write one separator"),
-        '_' => Some("a pre-release has letters, digits, `-` and `.`"),
-        c if !c.is_ascii() => Some("this character isn't ASCII"),
-        _ => None,
+    if let Some(hint) = named(piece) {
+        return Some(hint);
+    }
+    let has_neighbour = part(text, 0, error.start).trim_end().ends_with('|')
+        || part(text, error.end, text.len())
+            .trim_start()
+            .starts_with('|');
+    if piece.starts_with("latest ") || has_neighbour && is_word(piece) {
+        return Some(Suggestion::Says("a tag stands alone, without ranges"));
+    }
+    None
+}
+
+// A hint for the one comparator of a specifier.
+fn in_specifier(mistake: Mistake<'_>) -> Option<&'static str> {
+    let c = mistake.next;
+    let is_space = c.is_whitespace();
+    if is_space && (mistake.before.is_empty() || mistake.behind.trim().is_empty()) {
+        Some("leave the whitespace out")
+    } else if is_space || is_operator(c) || matches!(c, ',' | '|' | '&' | '\u{2264}' | '\u{2265}') {
+        Some("a specifier takes one comparator: `^1.2`, `~1.2` or `1.2`")
+    } else {
+        None
+    }
+}
+
+/// A hint for an invalid alternative of a range in this grammar, or for an invalid version.
+pub fn hint<'a>(
+    text: &'a str,
+    error: &InvalidPiece,
+    grammar: Option<Flavour>,
+) -> Option<Suggestion<'a>> {
+    let piece = part(text, error.start, error.end);
+    let mistake = Mistake::new(piece, error.place.saturating_sub(error.start))?;
+    let bare = piece.trim();
+    if bare.ends_with(".txt") || bare.ends_with(".json") {
+        return Some(Suggestion::Says("to read versions from a file, write `<` before its name"));
+    }
+    if let Some(hint) = mistake.in_version() {
+        return Some(Suggestion::Says(hint));
+    }
+    let hint = match grammar {
+        None => None,
+        Some(Flavour::Specifier) => match mistake.in_comparator() {
+            Some(suggestion) => Some(suggestion),
+            None => match in_specifier(mistake) {
+                Some(says) => Some(Suggestion::Says(says)),
+                None => None,
+            },
+        },
+        Some(flavour) => match mistake.in_comparator() {
+            Some(suggestion) => Some(suggestion),
+            None => in_range(text, error, mistake, flavour),
+        },
+    };
+    match hint {
+        Some(Suggestion::Write(_, _, _)) if piece.len() > LONG => None,
+        None if !mistake.next.is_ascii() => Some(Suggestion::Says("this character isn't ASCII")),
+        hint => hint,
     }
 }
 
@@ -118,7 +422,6 @@ pub fn question(tag: &str) -> Option<&'static str> {
     }
     let first = tag.chars().next()?;
     let is_digit = |c: char| c.is_ascii_digit();
-    let looks_like_digit = |c: char| matches!(c, 'l' | 'I' | 'O' | 'o');
     if first == 'V' && tag.contains(is_digit) {
         return Some("write `v`, or leave it out");
     }

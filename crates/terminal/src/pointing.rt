@@ -4,6 +4,7 @@ use crate::console::{CARET, Console, END, Status, Stop, Style};
 use crate::hints::hint;
 use crate::shown::{Quoted, Shown, is_escaped};
 use semver_base::failure::ParseFailure;
+use semver_req::common::values::Flavour;
 use semver_req::error_places::causes::Cause;
 use semver_req::error_places::expected::{Expected, Kind};
 use semver_req::error_places::pieces::InvalidPiece;
@@ -19,6 +20,9 @@ const LONG: usize = 120;
 const BEFORE: usize = 60;
 
 const AFTER: usize = 40;
+
+// How many names of what is expected are listed.
+const MANY: usize = 5;
 
 /// The part of a text between two indexes.
 pub fn part(text: &str, start: usize, end: usize) -> &str {
@@ -79,18 +83,19 @@ pub fn print_caret<O: Write, T: fmt::Display + Drop>(
     Ok(writeln!(out, "  | {}{caret}^{note}{end}", Padding(before))?)
 }
 
-/// Prints the text with a caret under the place of an error, what is expected there, and a hint if there is one.
+/// Prints the text with a caret under the place of an error, what is expected there, and a hint if there is one. It is the error of a range
+/// in this grammar, or of a version.
 pub fn print_error<O: Write>(
     out: &mut O,
     style: Style,
     text: &str,
     error: &InvalidPiece,
+    grammar: Option<Flavour>,
 ) -> Result<(), Stop> {
     let expectation = Expectation(error, text);
     let note = format_args!(" {expectation}");
     print_caret(out, style, text, error.place, note)?;
-    let piece = part(text, error.start, error.end);
-    match hint(piece, error.place.saturating_sub(error.start)) {
+    match hint(text, error, grammar) {
         Some(hint) => Ok(writeln!(out, "  = {hint}")?),
         None => Ok(()),
     }
@@ -102,7 +107,7 @@ impl<O: Write, E: Write> Console<O, E> {
         let errors = version_errors(self.alloc, text)?;
         let status = self.complain(format_args!("version {}", Quoted(text)), failure.message());
         for error in &errors {
-            let _ = print_error(&mut self.err, self.terminal.err, text, error);
+            let _ = print_error(&mut self.err, self.terminal.err, text, error, None);
         }
         if text.starts_with(['^', '~', '<', '>'].as_slice()) {
             let _ = writeln!(self.err, "  = the range is the first argument");
@@ -178,7 +183,9 @@ impl Names<'_> {
             Kind::Letter => Some("a letter"),
             Kind::X | Kind::V => None,
             Kind::Space => Some("whitespace"),
-            Kind::And if !self.before.ends_with('&') => Some("`&&`"),
+            // They are legal, and node-semver rejects them.
+            Kind::Comma => None,
+            Kind::And if !self.before.ends_with('&') => None,
             Kind::Bar if !self.before.ends_with('|') => Some("`||`"),
             Kind::Dot => Some("`.`"),
             Kind::Hyphen => Some("`-`"),
@@ -187,11 +194,32 @@ impl Names<'_> {
             Kind::Less => Some("`<`"),
             Kind::Greater => Some("`>`"),
             Kind::Equals => Some("`=`"),
-            Kind::Comma => Some("`,`"),
             Kind::And => Some("`&`"),
             Kind::Bar => Some("`|`"),
             kind => Some(kind.text()),
         }
+    }
+}
+
+impl Names<'_> {
+    // Whether an expected kind is left out, so that the list stays short: what people mean least often.
+    fn is_left_out(&self, kind: Kind) -> bool {
+        let kinds = self.expected.kinds.iter();
+        let names = kinds.filter_map(|kind| self.name(*kind)).count();
+        let many = if self.expected.may_end {
+            MANY - 1
+        } else {
+            MANY
+        };
+        // In a pre-release a letter is, and directly behind a number it isn't.
+        let order = if self.has(Kind::Letter) && self.has(Kind::Dot) {
+            [Kind::Plus, Kind::Hyphen, Kind::Bar]
+        } else {
+            [Kind::Plus, Kind::Letter, Kind::Bar]
+        };
+        let listed = order.iter().filter(|it| self.has(**it));
+        let mut out = listed.take(names.saturating_sub(many));
+        out.any(|it| *it == kind)
     }
 }
 
@@ -205,6 +233,7 @@ impl fmt::Display for Names<'_> {
         let mut last = None;
         let mut is_first = true;
         let kinds = self.expected.kinds.iter();
+        let kinds = kinds.filter(|kind| !self.is_left_out(**kind));
         for name in kinds.filter_map(|kind| self.name(*kind)).chain(end) {
             if let Some(last) = last.replace(name) {
                 if !is_first {
