@@ -122,7 +122,7 @@ impl<'r> Behind<'r> {
 }
 
 /// The texts of the first two ranges that no version matches both of. The time grows with the number of ranges, and with its square only
-/// where many have several alternatives, or only pre-releases, and nothing in common.
+/// where many have several alternatives, or begin with a pre-release, and nothing in common.
 pub fn first_apart<'a>(
     alloc: Global,
     texts: &[&'a str],

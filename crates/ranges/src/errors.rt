@@ -11,7 +11,8 @@ use semver_req::error_places::pieces::invalid_pieces_behind;
 use serde_json::Value;
 use std::alloc::{AllocError, Global};
 use std::io::Write;
-use terminal::console::{Stop, Style};
+use terminal::console::{Stop, Style, print_line};
+use terminal::hints::scope_hint;
 use terminal::pointing::{print_caret, print_error, version_errors};
 
 /// The errors of the range that ends a text.
@@ -65,7 +66,16 @@ pub fn print_errors<O: Write>(
                 Some(Part::Scheme) => " expected `jsr:` or `npm:`",
                 None => "",
             };
-            print_caret(out, style, text, error.place, note)
+            print_caret(out, style, text, error.place, note)?;
+            match scope_hint(text) {
+                Some(hint) if error.missing.is_none() => {
+                    print_line(
+                        out,
+                        format_args!("  = packages of JSR have a scope: {hint}"),
+                    )
+                }
+                _ => Ok(()),
+            }
         }
     }
 }

@@ -1,8 +1,8 @@
 //! What to write in place of usual mistakes. These are guesses, and tested alone.
 
-use crate::pointing::part;
-use crate::shown::Shown;
+use crate::shown::{Shown, part};
 use semver_req::common::values::Flavour;
+use semver_req::error_places::causes::Cause;
 use semver_req::error_places::pieces::InvalidPiece;
 use std::fmt;
 
@@ -259,6 +259,7 @@ impl<'a> Mistake<'a> {
             ',' | '&' if flavour == Flavour::Normal => Some("put a space between two comparators"),
             c if c != '|' && before.ends_with('|') => Some("write `||`"),
             c if c != '&' && before.ends_with('&') => Some("write a space for `&`"),
+            ';' if self.behind.trim().is_empty() => Some("leave the `;` out"),
             ';' => Some("write `||` for `or`, a space for `and`"),
             '\u{2265}' => Some("write `>=`"),
             '\u{2264}' => Some("write `<=`"),
@@ -290,9 +291,10 @@ fn is_word(text: &str) -> bool {
 
 // What is meant by an alternative as a whole.
 fn of_range(piece: &str, mistake: Mistake<'_>, has_hyphen: bool) -> Option<&'static str> {
+    let is_not = mistake.next == '!' && mistake.front.is_empty() && is_comparator(mistake.tail);
     if piece.starts_with("between ") && has_hyphen {
         Some("write `1 - 2` for the versions between 1 and 2")
-    } else if piece.contains("!=") || matches!(mistake.next, '!' | '\u{2260}') {
+    } else if piece.contains("!=") || mistake.next == '\u{2260}' || is_not {
         Some("no operator means `not`: write two ranges, such as `<1.2 || >1.2`")
     } else if piece.starts_with('[') || matches!(mistake.next, '[' | ']') {
         Some("ranges have no brackets: write `>=` and `<`")
@@ -324,14 +326,17 @@ fn in_range<'a>(
     if has_hyphen && let Some(suggestion) = mistake.as_hyphen() {
         return Some(suggestion);
     }
-    let says = (mistake.as_sign(flavour))
+    if let Some(says) = mistake
+        .as_sign(flavour)
         .or_else(|| mistake.as_word(has_hyphen))
-        .or_else(|| of_range(piece, mistake, has_hyphen));
-    if let Some(says) = says {
+    {
         return Some(Suggestion::Says(says));
     }
-    if let Some(hint) = named(piece) {
-        return Some(hint);
+    if let Some(suggestion) = named(piece) {
+        return Some(suggestion);
+    }
+    if let Some(says) = of_range(piece, mistake, has_hyphen) {
+        return Some(Suggestion::Says(says));
     }
     let has_neighbour = part(text, 0, error.start).trim_end().ends_with('|')
         || part(text, error.end, text.len())
@@ -362,6 +367,9 @@ pub fn hint<'a>(
     error: &InvalidPiece,
     grammar: Option<Flavour>,
 ) -> Option<Suggestion<'a>> {
+    if matches!(error.cause, Cause::NumberTooLarge | Cause::BoundTooLarge) {
+        return None;
+    }
     let piece = part(text, error.start, error.end);
     let mistake = Mistake::new(piece, error.place.saturating_sub(error.start))?;
     let bare = piece.trim();
@@ -389,6 +397,18 @@ pub fn hint<'a>(
         Some(Suggestion::Write(_, _, _)) if piece.len() > LONG => None,
         None if !mistake.next.is_ascii() => Some(Suggestion::Says("this character isn't ASCII")),
         hint => hint,
+    }
+}
+
+/// A hint for a reference to a package of JSR whose scope lacks its `@`, so that a version stands behind its path.
+pub fn scope_hint(text: &str) -> Option<Suggestion<'_>> {
+    let path = text.strip_prefix("jsr:")?.trim_start_matches('/');
+    let (scope, name) = path.split_once('/')?;
+    let is_name = !name.contains(['/', ' '].as_slice());
+    if is_name && scope.starts_with(|c: char| c.is_ascii_alphabetic()) && text.len() <= LONG {
+        Some(Suggestion::Write("jsr:@", "", path))
+    } else {
+        None
     }
 }
 

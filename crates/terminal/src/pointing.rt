@@ -2,7 +2,7 @@
 
 use crate::console::{CARET, Console, END, Status, Stop, Style};
 use crate::hints::hint;
-use crate::shown::{Quoted, Shown, is_escaped};
+use crate::shown::{Quoted, Shown, is_escaped, part};
 use semver_base::failure::ParseFailure;
 use semver_req::common::values::Flavour;
 use semver_req::error_places::causes::Cause;
@@ -23,11 +23,6 @@ const AFTER: usize = 40;
 
 // How many names of what is expected are listed.
 const MANY: usize = 5;
-
-/// The part of a text between two indexes.
-pub fn part(text: &str, start: usize, end: usize) -> &str {
-    text.get(start..end).unwrap_or("")
-}
 
 // What may follow in a version's text, in the order in which it is listed.
 const OF_VERSIONS: [Kind; 8] = [
@@ -211,8 +206,9 @@ impl Names<'_> {
         } else {
             MANY
         };
-        // In a pre-release a letter is, and directly behind a number it isn't.
-        let order = if self.has(Kind::Letter) && self.has(Kind::Dot) {
+        // In a pre-release a letter is meant, and directly behind three numbers it isn't.
+        let is_identifier = self.has(Kind::Dot) || self.before.ends_with('.');
+        let order = if self.has(Kind::Letter) && is_identifier {
             [Kind::Plus, Kind::Hyphen, Kind::Bar]
         } else {
             [Kind::Plus, Kind::Letter, Kind::Bar]

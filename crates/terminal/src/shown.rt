@@ -5,6 +5,11 @@ use std::fmt;
 // A longer text is shown in part.
 const LONG: usize = 200;
 
+/// The part of a text between two indexes.
+pub fn part(text: &str, start: usize, end: usize) -> &str {
+    text.get(start..end).unwrap_or("")
+}
+
 /// A text whose control characters, but tabs, are escaped, so that none reaches a terminal.
 #[derive(Clone, Copy)]
 pub struct Shown<'a>(pub &'a str);
