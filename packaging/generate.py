@@ -39,6 +39,10 @@ class Command:
     usage: str
     arguments: list
     options: List[Option]
+    aliases: List[str]
+
+    def names(self):
+        return [self.name, *self.aliases]
 
     def takes_files(self):
         return any(term.startswith(("<FILE", "[FILE")) for term, _ in self.arguments)
@@ -70,7 +74,9 @@ def option(term, description):
 def command(name, description):
     text = help_of(name)
     usage = re.search(r"^Usage: ranges (.*)", text, re.M).group(1)
-    return Command(name, description, usage, rows(text, "Arguments"), [option(*row) for row in rows(text, "Options")])
+    description, _, aliases = description.removesuffix("]").partition(" [alias: ")
+    options = [option(*row) for row in rows(text, "Options")]
+    return Command(name, description, usage, rows(text, "Arguments"), options, aliases.split(", ") if aliases else [])
 
 
 def statuses():
@@ -91,7 +97,8 @@ def manual(description, commands):
     lines = [".TH RANGES 1", ".SH NAME", f"ranges \\- {roff(description)}", ".SH SYNOPSIS", ".B ranges", "\\fICOMMAND\\fR [\\fIARGUMENT\\fR]..."]
     lines.append(".SH COMMANDS")
     for each in commands:
-        lines += [f".SS {bold('ranges ' + each.usage.replace('[OPTIONS] ', ''))}", roff(each.help) + "."]
+        alias = f" Or ranges {', '.join(each.aliases)}." if each.aliases else ""
+        lines += [f".SS {bold('ranges ' + each.usage.replace('[OPTIONS] ', ''))}", roff(f"{each.help}.{alias}")]
         for term, text in each.arguments:
             name = re.search("[A-Z]+", term).group()
             lines += [".TP", f"\\fI{name}\\fR", roff(text) + "."]
@@ -114,11 +121,11 @@ def bash(commands):
     def names_of(command):
         return " ".join(name for one in command.options for name in ([f"-{one.short}"] if one.short else []) + [f"--{one.name}"])
 
-    cases = [f'        {each.name}) options="{names_of(each)}" ;;' for each in commands]
+    cases = [f'        {"|".join(each.names())}) options="{names_of(each)}" ;;' for each in commands]
     with_files = "|".join(each.name for each in commands if each.takes_files())
     choices = {one.name: one.choices for each in commands for one in each.options if one.choices}
     values = [f'        --{name}) COMPREPLY=($(compgen -W "{" ".join(texts)}" -- "$word")); return ;;' for name, texts in choices.items()]
-    names = " ".join(each.name for each in commands)
+    names = " ".join(name for each in commands for name in each.names())
     return "\n".join([
         "_ranges() {",
         '    local word=${COMP_WORDS[COMP_CWORD]} options=""',
@@ -142,10 +149,10 @@ def zsh(commands):
         return re.sub(r"([\[\]:])", r"\\\1", text.replace("'", "'\\''"))
 
     lines = ["#compdef ranges", "local -a commands", "commands=("]
-    lines += [f"    '{each.name}:{quoted(each.help)}'" for each in commands] + [")"]
+    lines += [f"    '{name}:{quoted(each.help)}'" for each in commands for name in each.names()] + [")"]
     lines += ["if (( CURRENT == 2 )); then", "    _describe command commands", "    return", "fi", "case $words[2] in"]
     for each in commands:
-        lines.append(f"    {each.name}) _arguments \\")
+        lines.append(f"    {'|'.join(each.names())}) _arguments \\")
         for one in each.options:
             value = f":{one.value}:({' '.join(one.choices)})" if one.value else ""
             names = f"'(-{one.short} --{one.name})'{{-{one.short},--{one.name}}}'" if one.short else f"'--{one.name}"
@@ -160,13 +167,15 @@ def fish(commands):
 
     lines = ["complete -c ranges -f"]
     for each in commands:
-        lines.append(f"complete -c ranges -n __fish_use_subcommand -a {each.name} -d {quoted(each.help)}")
+        seen = f"'__fish_seen_subcommand_from {' '.join(each.names())}'"
+        for name in each.names():
+            lines.append(f"complete -c ranges -n __fish_use_subcommand -a {name} -d {quoted(each.help)}")
         for one in each.options:
             value = f" -x -a {quoted(' '.join(one.choices))}" if one.value else ""
             short = f" -s {one.short}" if one.short else ""
-            lines.append(f"complete -c ranges -n '__fish_seen_subcommand_from {each.name}'{short} -l {one.name}{value} -d {quoted(one.help)}")
+            lines.append(f"complete -c ranges -n {seen}{short} -l {one.name}{value} -d {quoted(one.help)}")
         if each.takes_files():
-            lines.append(f"complete -c ranges -n '__fish_seen_subcommand_from {each.name}' -F")
+            lines.append(f"complete -c ranges -n {seen} -F")
     return "\n".join([*lines, ""])
 
 

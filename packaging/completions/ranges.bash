@@ -5,7 +5,7 @@ _ranges() {
         --grammar) COMPREPLY=($(compgen -W "npm normal strict" -- "$word")); return ;;
     esac
     if [ "$COMP_CWORD" = 1 ]; then
-        COMPREPLY=($(compgen -W "check explain normal min common within overlap filter best outdated sort package reference help --help --version" -- "$word"))
+        COMPREPLY=($(compgen -W "check explain normal min common within overlap filter matches best outdated compare sort package reference help --help --version" -- "$word"))
         return
     fi
     case ${COMP_WORDS[1]} in
@@ -15,10 +15,11 @@ _ranges() {
         min) options="-j --json -g --grammar -p --pre -h --help -V --version" ;;
         common) options="-j --json -g --grammar -p --pre -q --quiet -h --help -V --version" ;;
         within) options="-j --json -g --grammar -p --pre -q --quiet -h --help -V --version" ;;
-        overlap) options="-j --json -g --grammar -q --quiet -h --help -V --version" ;;
-        filter) options="-j --json -g --grammar -p --pre -q --quiet -0 --null --tags --skip-invalid -r --range -h --help -V --version" ;;
+        overlap) options="-j --json -g --grammar -p --pre -q --quiet -h --help -V --version" ;;
+        filter|matches) options="-j --json -g --grammar -p --pre -q --quiet -0 --null --tags --skip-invalid -r --range -h --help -V --version" ;;
         best) options="-j --json -g --grammar -p --pre -q --quiet -0 --null --tags --skip-invalid -r --range -h --help -V --version" ;;
         outdated) options="-j --json -g --grammar -p --pre -q --quiet -0 --null --tags --skip-invalid -h --help -V --version" ;;
+        compare) options="-j --json -h --help -V --version" ;;
         sort) options="-j --json -r --reverse -0 --null --tags --skip-invalid -h --help -V --version" ;;
         package) options="-j --json -g --grammar -h --help -V --version" ;;
         reference) options="-j --json -h --help -V --version" ;;
