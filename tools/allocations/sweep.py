@@ -159,6 +159,7 @@ def ranges_commands():
         yield from (([name, *json_form, loose, tag], b"") for name in ("explain", "normal"))
         yield from (([name, *json_form, loose], VERSIONS) for name in ("filter", "best", "outdated"))
         yield from (([name, *json_form, loose, "^1 || foo"], b"") for name in ("common", "within", "overlap"))
+        yield from ((["compare", *json_form, "1.2.3-rc", "1.2.3"], b""), (["overlap", *json_form, "*", ">=1.0.0-a <1.0.0", "1"], b""))
         yield from ((["sort", *json_form, "--reverse", "--skip-invalid"], VERSIONS), (["min", *json_form, loose], b""))
         yield from ((["check", *json_form, "--canonical"], MANIFEST), (["explain", *json_form, "1 2 <"], b""))
         yield from ((["package", *json_form, TEXTS[2]], b""), (["reference", *json_form, "jsr:@a/b@^1/c.ts"], b""))

@@ -268,6 +268,7 @@ def plenty():
     yield ask("ranges", ["explain", "--json", *ranges], "", (ONE_EXPLAINED * PLENTY, "", 0))
     yield ask("ranges", ["normal", *ranges], "", ("1\n" * PLENTY, "", 0))
     yield ask("ranges", ["overlap", *ranges], "", ("yes\n", "", 0))
+    yield ask("ranges", ["overlap", *["*"] * PLENTY, "1", "2"], "", ('no "1" and "2"\n', "", 1))
     yield ask("ranges", ["check", *ranges], "", ("", "ranges: 1: no such file\n" * PLENTY, 3))
     yield ask("ranges", ["check"], "^1..2\n" * PLENTY, ("".join(ONE_CHECKED.format(line) for line in range(1, PLENTY + 1)), "", 3))
     nested = '{"x":' + "[" * PLENTY + "]" * PLENTY + ',"dependencies":{"a":"1..2"}}'
