@@ -1,4 +1,4 @@
-//! The commands over lists of versions: `filter`, `best`, `outdated` and `sort`.
+//! The commands over lists of versions: `filter`, `best`, `outdated`, `sort` and `key`.
 
 use crate::comparing::{print_tag, print_version, reject};
 use answers::object::Object;
@@ -217,6 +217,47 @@ pub fn sort<R: Input, O: Write, E: Write>(
             print_text(console, text.as_str())?;
         }
     }
+    if console.options.json {
+        console.end_items()?;
+    }
+    Ok(status)
+}
+
+// Prints the sort key of each version, what the version is, and its text.
+#[derive(Drop)]
+struct Keys {}
+
+impl Take for Keys {
+    fn take<O: Write, E: Write>(
+        &mut self,
+        console: &mut Console<O, E>,
+        text: &str,
+        version: Version,
+    ) -> Result<(), Stop> {
+        let key = version.sort_key(console.alloc)?;
+        let is_pre = !version.pre.is_empty();
+        if console.options.json {
+            let json = Object::new(console.alloc)
+                .put_text("key", Some(key.as_str()))
+                .put("pre", Ok(Value::Bool(is_pre)))
+                .put_text("version", Some(text.trim()))
+                .into_json();
+            return console.item(json);
+        }
+        let kind = if is_pre { "pre" } else { "release" };
+        let (text, end) = (text.trim(), console.options.line_end());
+        write!(console.out, "{key}\t{kind}\t{text}{end}")?;
+        Ok(())
+    }
+}
+
+/// `ranges key [VERSION..]`: the sort key of each version, `release` or `pre`, and the version, with tabs between.
+pub fn key<R: Input, O: Write, E: Write>(
+    rt: &R,
+    console: &mut Console<O, E>,
+    matches: &ArgMatches<'_>,
+) -> Result<Status, Stop> {
+    let status = take_all(rt, console, matches.get_strs("VERSION"), &mut Keys {})?;
     if console.options.json {
         console.end_items()?;
     }

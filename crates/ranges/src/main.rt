@@ -40,6 +40,7 @@ fn answer<R: Input + Files + AllocGlobal, O: Write, E: Write>(
         "best" => listed::best(rt, console, matches),
         "outdated" => listed::outdated(rt, console, matches),
         "sort" => listed::sort(rt, console, matches),
+        "key" => listed::key(rt, console, matches),
         "explain" => explaining::report(console, matches),
         "normal" => comparing::normal(console, matches),
         "common" | "min" => comparing::common(console, matches),

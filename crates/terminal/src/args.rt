@@ -265,7 +265,7 @@ const MATCHING: &[Argument] = &[
 // A command that has another name, and that name.
 const ALIAS: (&str, &str) = ("filter", "matches");
 
-const COMMANDS: [Entry; 14] = [
+const COMMANDS: [Entry; 15] = [
     Entry {
         name: "check",
         about: "Check the ranges of package.json, deno.json and import maps",
@@ -384,6 +384,15 @@ Examples:
 Examples:
   ranges sort 1.10.0 1.9.0 1.9.0-rc.1
   git tag | ranges sort --reverse --tags --skip-invalid",
+    },
+    Entry {
+        name: "key",
+        about: "Print the sort key of each version, for a column of a database",
+        arguments: &[JSON, NULL, TAGS, SKIP_INVALID, VERSIONS],
+        examples: "\
+Examples:
+  ranges key 1.10.0 1.10.0-beta.2
+  ranges key --json < versions",
     },
     Entry {
         name: "package",
