@@ -213,9 +213,10 @@ int32_t semver_export_name(const char *path, size_t path_len, char *out, size_t 
  * those that end in _free free it. No other code may write a handle, nor copy one that holds a value: the copy would be a second owner.
  *
  * A call that takes a handle with `const` only reads the handle and its value, in place. So it may be given one handle twice, and several
- * threads may ask one handle at once, as long as none reads into it or frees it. If a handle is empty, or holds a value of another kind,
- * the code is NO_VALUE: a call that writes a text writes the error message, one that writes a list stores 0 in `*needed`, and all else
- * stays as it was. */
+ * threads may ask one handle at once, as long as none reads into it or frees it. That is tested, not proved.
+ *
+ * If a handle is empty, or holds a value of another kind, the code is NO_VALUE: a call that writes a text writes the error message, one
+ * that writes a list stores 0 in `*needed`, and all else stays as it was. */
 typedef struct {
     void *at;
 } semver_req;
