@@ -1,20 +1,15 @@
 -- The JSON of errors and explanations.
-use Rattle.std.proofs.Common.{◌≡◌, ◌∙◌, ◌++◌, ◌+◌, ◌<◌, ℕ, suc, append_assoc, arith, drop, drop-cons, get_or, length, Bool, true, false, List, [], ◌∷◌, Err, Result, ap, append-nil, inl, inr, map, refl, subst, sym, ◌⊎◌, codes, if◌then◌else◌}
-use Rattle.std.proofs.lemmas.List.{map-append}
+use Rattle.std.proofs.Common.{◌≡◌, ◌∙◌, ◌++◌, ℕ, Bool, true, false, List, [], ◌∷◌, Err, Result, ap, append-nil, inl, inr, map, refl, subst, sym, ◌⊎◌, codes, if◌then◌else◌}
 use Rattle.serde_json.specs.Data.{Data, string}
-use Rattle.serde_json.specs.View.{view}
-use Rattle.serde_json.specs.declared.value.Value.{Value}
 use Rattle.semver_base.specs.declared.range.PreRelease.{PreRelease}
 use Rattle.semver_req.specs.declared.common.values.Flavour.{Flavour}
 use Rattle.semver_req.specs.declared.error_places.expected.Expected.{Expected}
 use Rattle.semver_req.specs.declared.error_places.expected.Kind.{Kind}
-use Rattle.semver_req.specs.declared.error_places.pieces.InvalidPiece.{InvalidPiece}
 use Rattle.answers.specs.Asking.{Fault, OutOfMemory}
 use Rattle.answers.specs.Errors.{expected_names, kind_name}
-use Rattle.answers.specs.ExplainedJson.{Explains, alternative_json, alternatives_json, error_for, errors_behind, invalid_range}
+use Rattle.answers.specs.ExplainedJson.{Explains, invalid_range}
 use Rattle.answers.specs.Reading.{IsRangeAt}
 use Rattle.answers.specs.declared.asking.Answer.{Answer}
-use Rattle.answers.specs.declared.explained.Piece.{Piece}
 
 -- names of kinds, and more texts
 pub named : (kinds : List Kind) (more : List (List ℕ)) → map string (map kind_name kinds ++ more) ≡ map (λ kind. string (kind_name kind)) kinds ++ map string more
@@ -40,14 +35,3 @@ pub not_explained : (flag : PreRelease) (f : Flavour) (text : List ℕ) (fault :
     → (outcome ≡ Err OutOfMemory) ⊎ Explains flag f text outcome
 not_explained flag f text fault outcome is (inl e) = inl (is ∙ ap Err e)
 not_explained flag f text fault outcome is (inr h) = inr (subst (Explains flag f text) (sym is) (invalid_range h))
-
--- one more alternative
-pub next_alternative : (flag : PreRelease) (pieces : List Piece) (i : ℕ) (piece : Piece) (rest : List InvalidPiece) (items : List Value) (json : Value) → piece ≡ get_or pieces i piece → i < length pieces
-    → view json ≡ alternative_json flag piece (error_for piece.meaning rest)
-    → map view items ++ alternatives_json flag (drop i pieces) rest ≡ map view (items ++ json ∷ []) ++ alternatives_json flag (drop (i + 1) pieces) (errors_behind piece.meaning rest)
-next_alternative flag pieces i piece rest items json at within is =
-    let more = alternatives_json flag (drop (i + 1) pieces) (errors_behind piece.meaning rest) in
-    let next : suc i ≡ i + 1 = omega arith in
-    let here : drop i pieces ≡ piece ∷ drop (i + 1) pieces = drop-cons pieces i piece within ∙ ap (λ (p : Piece). p ∷ drop (suc i) pieces) (sym at) ∙ ap (λ (k : ℕ). piece ∷ drop k pieces) next in
-    ap (λ (left : List Piece). map view items ++ alternatives_json flag left rest) here ∙ ap (λ (d : Data). map view items ++ (d ∷ more)) (sym is)
-    ∙ sym (append_assoc (map view items) (view json ∷ []) more) ∙ ap (λ (all : List Data). all ++ more) (sym (map-append view items (json ∷ [])))

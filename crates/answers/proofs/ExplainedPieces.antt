@@ -1,39 +1,21 @@
--- Pieces explained one after another.
-use Rattle.std.proofs.Common.{◌+◌, ◌<◌, ◌++◌, ℕ, List, [], ◌∷◌, Bool, false, length, take, get_or, sym, subst, append-nil}
-use Rattle.std.proofs.lemmas.List.{take_more}
-use Rattle.answers.specs.Explained.{AreAllExplained, AreWholeTexts, IsExplainedPiece, IsWholeText}
+-- Alternatives explained one after another.
+use Rattle.std.proofs.Common.{◌≡◌, ◌<◌, ◌++◌, ℕ, suc, zero, List, [], ◌∷◌, arith, get_or, length, subst, sym}
+use Rattle.semver_req.specs.Alternatives.{AreWritable, IsWritable}
+use Rattle.answers.specs.Explained.{AreExplained, IsExplainedPiece}
 use Rattle.answers.specs.declared.explained.Piece.{Piece}
 use Rattle.semver_base.specs.declared.range.PreRelease.{PreRelease}
-use Rattle.semver_base.specs.declared.range.VersionRange.{VersionRange}
-use Rattle.semver_req.specs.declared.common.values.Flavour.{Flavour}
+use Rattle.semver_req.specs.declared.error_places.pieces.Alternative.{Alternative}
 
--- one more piece, after the first
-one_more : (f : Flavour) (flag : PreRelease) (texts : List (List ℕ)) (pieces : List Piece) (text : List ℕ) (piece : Piece) → AreAllExplained f flag false texts pieces → IsExplainedPiece f flag false text piece
-    → AreAllExplained f flag false (texts ++ text ∷ []) (pieces ++ piece ∷ [])
-one_more f flag [] [] text piece h k = (k, tt)
-one_more f flag (t ∷ ts) (p ∷ ps) text piece h k = (h.0, one_more f flag ts ps text piece h.1 k)
-one_more f flag [] (p ∷ ps) text piece h k = absurd h
-one_more f flag (t ∷ ts) [] text piece h k = absurd h
+-- one more
+pub explained_more : (flag : PreRelease) (alternatives : List Alternative) (pieces : List Piece) (a : Alternative) (piece : Piece) → AreExplained flag alternatives pieces → IsExplainedPiece flag a piece
+    → AreExplained flag (alternatives ++ a ∷ []) (pieces ++ piece ∷ [])
+explained_more flag [] [] a piece h k = (k, tt)
+explained_more flag (b ∷ bs) (p ∷ ps) a piece h k = (h.0, explained_more flag bs ps a piece h.1 k)
+explained_more flag [] (p ∷ ps) a piece h k = absurd h
+explained_more flag (b ∷ bs) [] a piece h k = absurd h
 
-pub explained_more : (f : Flavour) (flag : PreRelease) (followed : Bool) (first : List ℕ) (texts : List (List ℕ)) (pieces : List Piece) (text : List ℕ) (piece : Piece)
-    → AreAllExplained f flag followed (first ∷ texts) pieces → IsExplainedPiece f flag false text piece → AreAllExplained f flag followed (first ∷ texts ++ text ∷ []) (pieces ++ piece ∷ [])
-explained_more f flag followed first texts (p ∷ ps) text piece h k = (h.0, one_more f flag texts ps text piece h.1 k)
-explained_more f flag followed first texts [] text piece h k = absurd h
-
--- nothing more
-pub explained_first : (f : Flavour) (flag : PreRelease) (followed : Bool) (first : List ℕ) (texts : List (List ℕ)) (pieces : List Piece) → AreAllExplained f flag followed (first ∷ texts) pieces
-    → AreAllExplained f flag followed (first ∷ texts ++ []) pieces
-explained_first f flag followed first texts pieces h = subst (λ ts. AreAllExplained f flag followed (first ∷ ts) pieces) (sym (append-nil texts)) h
-
--- one more range
-one_range_more : (flag : PreRelease) (text : List ℕ) (ranges : List VersionRange) (pieces : List Piece) (range : VersionRange) (piece : Piece) → AreWholeTexts flag text ranges pieces → IsWholeText flag text range piece
-    → AreWholeTexts flag text (ranges ++ range ∷ []) (pieces ++ piece ∷ [])
-one_range_more flag text [] [] range piece h k = (k, tt)
-one_range_more flag text (r ∷ rs) (p ∷ ps) range piece h k = (h.0, one_range_more flag text rs ps range piece h.1 k)
-one_range_more flag text [] (p ∷ ps) range piece h k = absurd h
-one_range_more flag text (r ∷ rs) [] range piece h k = absurd h
-
-pub whole_more : (flag : PreRelease) (text : List ℕ) (ranges : List VersionRange) (i : ℕ) (d : VersionRange) (pieces : List Piece) (piece : Piece) → i < length ranges → AreWholeTexts flag text (take i ranges) pieces → IsWholeText flag text (get_or ranges i d) piece
-    → AreWholeTexts flag text (take (i + 1) ranges) (pieces ++ piece ∷ [])
-whole_more flag text ranges i d pieces piece within h k =
-    subst (λ rs. AreWholeTexts flag text rs (pieces ++ piece ∷ [])) (sym (take_more ranges i d within)) (one_range_more flag text (take i ranges) pieces (get_or ranges i d) piece h k)
+-- each of alternatives that are writable is
+pub writable_at : (all : List Alternative) (i : ℕ) (a : Alternative) → i < length all → a ≡ get_or all i a → AreWritable all → IsWritable a.parsed
+writable_at [] i a within is h = absurd (omega arith)
+writable_at (b ∷ all) zero a within is h = subst (λ (c : Alternative). IsWritable c.parsed) (sym is) h.0
+writable_at (b ∷ all) (suc i) a within is h = writable_at all i a (omega arith) is h.1

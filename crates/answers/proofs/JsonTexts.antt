@@ -12,7 +12,7 @@ use Rattle.semver_base.specs.declared.range.PreRelease.{PreRelease}
 use Rattle.semver_base.specs.declared.range.PreRelease.TheVariants as pre_release
 use Rattle.semver_req.specs.declared.error_places.pieces.InvalidPiece.{InvalidPiece}
 use Rattle.answers.specs.Errors.{error_json, errors_json, expected_texts}
-use Rattle.answers.specs.ExplainedJson.{alternatives_json, error_for, error_or_null, errors_behind, lowest_json, matches_json, meaning_json, numbers_text, pre_releases, pre_releases_json, ranges_explained}
+use Rattle.answers.specs.ExplainedJson.{alternative_json, lowest_json, matches_json, meaning_json, numbers_text, pre_releases, pre_releases_json, ranges_explained}
 use Rattle.answers.specs.declared.explained.Matches.{Matches}
 use Rattle.answers.specs.declared.explained.Meaning.{Meaning}
 use Rattle.answers.specs.declared.explained.Meaning.TheVariants as meaning
@@ -68,19 +68,14 @@ matches_no_float flag text m = ap (λ b. b || (has_float (lowest_json m.lowest) 
     ∙ ap (λ b. b || (has_float (bound_json m.range.start) || false)) (pre_releases_no_float flag m)
     ∙ ap (λ b. b || false) (bound_no_float m.range.start)
 
-error_or_no_float : (error : Option InvalidPiece) → has_float (error_or_null error) ≡ false
-error_or_no_float (Some e) = error_no_float e
-error_or_no_float None = refl
+meaning_no_float : (flag : PreRelease) (text : List ℕ) (m : Meaning) → has_float (meaning_json flag text m) ≡ false
+meaning_no_float flag text (meaning.Range m) = matches_no_float flag text m
+meaning_no_float flag text (meaning.LeftOut e) = ap (λ b. b || false) (error_no_float e)
 
-meaning_no_float : (flag : PreRelease) (text : List ℕ) (m : Meaning) (error : Option InvalidPiece) → has_float (meaning_json flag text m error) ≡ false
-meaning_no_float flag text (meaning.Range m) error = matches_no_float flag text m
-meaning_no_float flag text (meaning.LeftOut why) error = ap (λ b. b || false) (error_or_no_float error)
+alternatives_no_float : (flag : PreRelease) (pieces : List Piece) → items_have_float (items_of (map (alternative_json flag) pieces)) ≡ false
+alternatives_no_float flag [] = refl
+alternatives_no_float flag (p ∷ ps) =
+    ap (λ b. b || items_have_float (items_of (map (alternative_json flag) ps))) (meaning_no_float flag (trim (string_bytes p.text)) p.meaning) ∙ alternatives_no_float flag ps
 
-alternatives_no_float : (flag : PreRelease) (pieces : List Piece) (errors : List InvalidPiece) → items_have_float (items_of (alternatives_json flag pieces errors)) ≡ false
-alternatives_no_float flag [] errors = refl
-alternatives_no_float flag (p ∷ ps) errors =
-    ap (λ b. b || items_have_float (items_of (alternatives_json flag ps (errors_behind p.meaning errors)))) (meaning_no_float flag (trim (string_bytes p.text)) p.meaning (error_for p.meaning errors))
-    ∙ alternatives_no_float flag ps (errors_behind p.meaning errors)
-
-pub explained_no_float : (flag : PreRelease) (pieces : List Piece) (errors : List InvalidPiece) (normal : List ℕ) → has_float (ranges_explained flag pieces errors normal) ≡ false
-explained_no_float flag pieces errors normal = ap (λ b. b || false) (alternatives_no_float flag pieces errors)
+pub explained_no_float : (flag : PreRelease) (pieces : List Piece) (normal : List ℕ) → has_float (ranges_explained flag pieces normal) ≡ false
+explained_no_float flag pieces normal = ap (λ b. b || false) (alternatives_no_float flag pieces)

@@ -5,7 +5,7 @@ use Rattle.serde_json.specs.View.{items_of}
 use Rattle.semver_base.specs.Failure.{rejection_message}
 use Rattle.semver_base.specs.declared.failure.Rejection.{Rejection}
 use Rattle.semver_req.specs.Causes.{rejection_of}
-use Rattle.semver_req.specs.InvalidPieces.{expectation, reported}
+use Rattle.semver_req.specs.Alternatives.{expectation, reported}
 use Rattle.semver_req.specs.declared.error_places.causes.Cause.{Cause}
 use Rattle.semver_req.specs.declared.error_places.causes.Cause.TheVariants.{Unexpected, NoTag, Empty, NumberTooLarge, BoundTooLarge}
 use Rattle.semver_req.specs.declared.error_places.expected.Kind.{Kind}

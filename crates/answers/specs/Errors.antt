@@ -6,7 +6,7 @@ use Rattle.serde_json.specs.Written.{compact_text}
 use Rattle.semver_base.specs.Failure.{rejection_message}
 use Rattle.semver_req.specs.declared.common.values.Flavour.{Flavour}
 use Rattle.semver_req.specs.Causes.{rejection_of}
-use Rattle.semver_req.specs.InvalidPieces.{AreInvalidPieces}
+use Rattle.semver_req.specs.Alternatives.{AreInvalidPieces}
 use Rattle.semver_req.specs.Kinds.{kind_text}
 use Rattle.semver_req.specs.declared.error_places.causes.Cause.{Cause}
 use Rattle.semver_req.specs.declared.error_places.causes.Cause.TheVariants.{Unexpected, NoTag, Empty, NumberTooLarge, BoundTooLarge}

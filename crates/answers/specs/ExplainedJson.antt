@@ -1,5 +1,5 @@
 -- Explanations as JSON.
-use Rattle.std.specs.Prelude.{◌≡◌, ◌++◌, ◌==◌, ◌&&◌, ℕ, Bool, not, List, [], ◌∷◌, Option, Some, None, Result, Ok, Err, codes, length, map, string_bytes, if◌then◌else◌, decimal}
+use Rattle.std.specs.Prelude.{◌++◌, ◌==◌, ◌&&◌, ℕ, Bool, not, List, [], ◌∷◌, Option, Some, None, Result, Ok, Err, codes, length, map, string_bytes, if◌then◌else◌, decimal}
 use Rattle.std.specs.Str.{trim}
 use Rattle.serde_json.specs.Data.{Data, array, member, no_members, null, object, string}
 use Rattle.serde_json.specs.View.{items_of}
@@ -11,11 +11,7 @@ use Rattle.semver_base.specs.declared.range.PreRelease.TheVariants as pre_releas
 use Rattle.semver_base.specs.declared.range.RangeBound.{RangeBound}
 use Rattle.semver_base.specs.declared.range.RangeBound.TheVariants as bound
 use Rattle.semver_base.specs.declared.version.Version.{Version}
-use Rattle.semver_req.specs.Parsers.{IsReading}
 use Rattle.semver_req.specs.declared.common.values.Flavour.{Flavour}
-use Rattle.semver_req.specs.declared.range_set_or_tag.RangeSetOrTag.TheVariants as inner
-use Rattle.semver_req.specs.InvalidPieces.{AreInvalidPieces}
-use Rattle.semver_req.specs.declared.error_places.pieces.InvalidPiece.{InvalidPiece}
 use Rattle.answers.specs.Asking.{Fault}
 use Rattle.answers.specs.Errors.{error_json}
 use Rattle.answers.specs.Explained.{IsExplained}
@@ -81,63 +77,33 @@ matches_json flag text m =
     (member (codes "start") (bound_json m.range.start)
     (member (codes "text") (string text) no_members)))))
 
--- the JSON of an error, or null
-abbrev pub error_or_null : Option InvalidPiece → Data
-error_or_null (Some e) = error_json e
-error_or_null None = null
-
 -- an alternative that is left out: its error and its text
-abbrev pub left_out_json : List ℕ → Option InvalidPiece → Data
-left_out_json text error =
-    object (member (codes "error") (error_or_null error) (member (codes "text") (string text) no_members))
+abbrev pub left_out_json : List ℕ → Data → Data
+left_out_json text error = object (member (codes "error") error (member (codes "text") (string text) no_members))
 
-abbrev pub meaning_json : PreRelease → List ℕ → Meaning → Option InvalidPiece → Data
-meaning_json flag text (meaning.Range m) error = matches_json flag text m
-meaning_json flag text (meaning.LeftOut why) error = left_out_json text error
+abbrev pub meaning_json : PreRelease → List ℕ → Meaning → Data
+meaning_json flag text (meaning.Range m) = matches_json flag text m
+meaning_json flag text (meaning.LeftOut error) = left_out_json text (error_json error)
 
--- an alternative, without the whitespace around it, and its error if it is left out
-abbrev pub alternative_json : PreRelease → Piece → Option InvalidPiece → Data
-alternative_json flag piece error = meaning_json flag (trim (string_bytes piece.text)) piece.meaning error
-
--- the first error is that of an alternative that is left out
-abbrev pub error_for : Meaning → List InvalidPiece → Option InvalidPiece
-error_for (meaning.Range m) errors = None
-error_for (meaning.LeftOut why) [] = None
-error_for (meaning.LeftOut why) (e ∷ errors) = Some e
-
--- the errors of the alternatives behind this one
-abbrev pub errors_behind : Meaning → List InvalidPiece → List InvalidPiece
-errors_behind (meaning.Range m) errors = errors
-errors_behind (meaning.LeftOut why) [] = []
-errors_behind (meaning.LeftOut why) (e ∷ errors) = errors
-
--- each alternative, those that are left out with their errors
-abbrev pub alternatives_json : PreRelease → List Piece → List InvalidPiece → List Data
-alternatives_json flag [] errors = []
-alternatives_json flag (piece ∷ pieces) errors = alternative_json flag piece (error_for piece.meaning errors)
-    ∷ alternatives_json flag pieces (errors_behind piece.meaning errors)
+-- an alternative, without the whitespace around it
+abbrev pub alternative_json : PreRelease → Piece → Data
+alternative_json flag piece = meaning_json flag (trim (string_bytes piece.text)) piece.meaning
 
 -- ---- texts
 
--- the alternatives, and the canonical form
-abbrev pub ranges_explained : PreRelease → List Piece → List InvalidPiece → List ℕ → Data
-ranges_explained flag pieces errors normal =
-    object (member (codes "alternatives") (array (items_of (alternatives_json flag pieces errors)))
+-- the alternatives, those that are left out with their errors, and the canonical form
+abbrev pub ranges_explained : PreRelease → List Piece → List ℕ → Data
+ranges_explained flag pieces normal =
+    object (member (codes "alternatives") (array (items_of (map (alternative_json flag) pieces)))
     (member (codes "normal") (string normal) no_members))
 
--- the explanation has these alternatives and this canonical form
-abbrev pub IsRangesOf : List Piece → List ℕ → Explanation → Type 0
-IsRangesOf pieces normal (explanation.Ranges own form) = (own.items ≡ pieces) × (string_bytes form ≡ normal)
-IsRangesOf pieces normal (explanation.Tag tag) = ⊥
-
--- the tag, or the JSON of the explanation with the errors of the invalid alternatives
-abbrev pub IsExplainedText : Flavour → PreRelease → List ℕ → Answer (List ℕ) → Type 0
-IsExplainedText f flag text (Tag tag) = IsReading f text (inner.Tag tag)
-IsExplainedText f flag text (Value json) = (pieces : List Piece) × (errors : List InvalidPiece) × (normal : List ℕ)
-    × ((e : Explanation) × IsExplained f flag text e × IsRangesOf pieces normal e)
-    × AreInvalidPieces f text errors × (json ≡ compact_text (ranges_explained flag pieces errors normal))
+-- the tag, or the JSON of the alternatives
+abbrev pub explained_as : PreRelease → Explanation → Answer (List ℕ)
+explained_as flag (explanation.Tag tag) = Tag tag
+explained_as flag (explanation.Ranges pieces normal) =
+    Value (compact_text (ranges_explained flag pieces.items (string_bytes normal)))
 
 -- what a range means, or that its text is invalid
 pub data Explains (flag : PreRelease) (f : Flavour) (text : List ℕ) : Result (Answer (List ℕ)) Fault → Type 0 where
-  explained : {answer : Answer (List ℕ)} → IsExplainedText f flag text answer → Explains flag f text (Ok answer)
+  explained : (e : Explanation) → IsExplained f flag text e → Explains flag f text (Ok (explained_as flag e))
   invalid_range : {fault : Fault} → IsRangeAt f 0 text (Err fault) → Explains flag f text (Err fault)

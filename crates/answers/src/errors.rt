@@ -3,7 +3,7 @@
 ghost use Rattle.std.specs.Prelude.{◌≡◌, IfOk, List, string_bytes, ℕ};
 ghost use Rattle.serde_json.specs.View.{view};
 ghost use Rattle.serde_json.specs.Written.{compact_text};
-ghost use Rattle.semver_req.specs.InvalidPieces.{AreInvalidPieces};
+ghost use Rattle.semver_req.specs.Alternatives.{AreInvalidPieces};
 ghost use Rattle.semver_req.specs.Viable.{IsErrorPlace, IsVersionText};
 ghost use Rattle.answers.specs.Errors.{IsErrorsText, error_json, errors_json, expected_json};
 

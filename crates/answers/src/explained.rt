@@ -2,20 +2,18 @@
 
 ghost use Rattle.std.specs.Prelude.{◌≡◌, ◌⊎◌, Err, IfErr, IfOk};
 ghost use Rattle.semver_base.specs.NormalText.{IsWritableRange};
-ghost use Rattle.answers.specs.Explained.{AreExplained, IsExplained, IsExplainedPiece, IsMeaningOfRange};
+ghost use Rattle.semver_req.specs.Alternatives.{IsWritable};
+ghost use Rattle.answers.specs.Explained.{AreItsPieces, IsExplained, IsExplainedPiece, IsMeaningOfRange};
 ghost use Rattle.answers.specs.Asking.{OutOfMemory, fault_of};
 ghost use Rattle.answers.specs.Reading.{IsRangeAt};
 
 use crate::asking::Problem;
 use crate::reading::range;
-use semver_base::failure::Rejection;
 use semver_base::range::{PreRelease, VersionRange};
 use semver_base::version::Version;
 use semver_req::common::values::Flavour;
-use semver_req::laws::read_ranges_are_writable;
-use semver_req::range_set_or_tag::{
-    PackageTag, RangeOrInvalid, RangeSetOrTag, first_piece, next_piece,
-};
+use semver_req::error_places::pieces::{Alternative, InvalidPiece, Parsed, alternatives};
+use semver_req::range_set_or_tag::{PackageTag, RangeSetOrTag};
 use std::alloc::{AllocError, Global};
 
 /// What a grammar makes of a text.
@@ -41,7 +39,7 @@ pub enum Meaning {
     /// The range that it means.
     Range(Matches),
     /// The alternative is invalid, so it is left out.
-    LeftOut(Rejection),
+    LeftOut(InvalidPiece),
 }
 
 /// A range, and what it matches.
@@ -79,44 +77,37 @@ impl Meaning {
 }
 
 impl Piece {
-    // What a grammar with alternatives makes of one of them, which is followed by `||` or not.
-    fn read(
+    // An alternative, with what its range matches.
+    fn of(
         alloc: Global,
-        flavour: Flavour,
         pre_release: PreRelease,
-        text: &str,
-        is_followed: bool,
+        alternative: Alternative<'_>,
     ) -> Result<Piece, AllocError>
-        ensures { IfOk result (IsExplainedPiece flavour pre_release is_followed text.now) }
+        requires { IsWritable alternative.parsed }
+        ensures { IfOk result (IsExplainedPiece pre_release alternative.entry) }
     {
-        read_ranges_are_writable();
-        let meaning = match RangeOrInvalid::parse(alloc, text, is_followed, flavour)? {
-            RangeOrInvalid::Range(range) => Meaning::of(alloc, pre_release, range)?,
-            RangeOrInvalid::Invalid(rejection) => Meaning::LeftOut(rejection),
+        let text = String::from_str(alloc, alternative.text)?;
+        let meaning = match alternative.parsed {
+            Parsed::Range(range) => Meaning::of(alloc, pre_release, range)?,
+            Parsed::Invalid(error) => Meaning::LeftOut(error),
         };
-        let text = String::from_str(alloc, text)?;
         Ok(Piece { text, meaning })
     }
 }
 
-// The pieces of a text, each parsed by a grammar that splits at each `||`.
+// The alternatives of a text, each with its meaning.
 fn pieces_of(
     alloc: Global,
     flavour: Flavour,
     pre_release: PreRelease,
     text: &str,
 ) -> Result<Vec<Piece>, AllocError>
-    ensures { IfOk result (λ pieces. AreExplained flavour pre_release text.now pieces.items) }
+    ensures { IfOk result
+        (λ pieces. AreItsPieces flavour pre_release text.now pieces.items) }
 {
-    let first = first_piece(text);
     let mut pieces = Vec::new(alloc);
-    let head = Piece::read(alloc, flavour, pre_release, first.piece, first.is_followed)?;
-    pieces.push(head)?;
-    let mut rest = first.rest;
-    while let Some((piece, more)) = next_piece(rest) {
-        let piece = Piece::read(alloc, flavour, pre_release, piece, false)?;
-        pieces.push(piece)?;
-        rest = more;
+    for alternative in alternatives(alloc, 0, text, flavour)? {
+        pieces.push(Piece::of(alloc, pre_release, alternative)?)?;
     }
     Ok(pieces)
 }
@@ -133,29 +124,11 @@ pub fn explain(
     ensures invalid { IfErr result
         (λ p. (fault_of p ≡ OutOfMemory) ⊎ IsRangeAt flavour 0 text.now (Err (fault_of p))) }
 {
-    read_ranges_are_writable();
     let range = range(alloc, flavour, 0, text)?;
-    match range.inner() {
-        RangeSetOrTag::Tag(tag) => Ok(Explanation::Tag(tag.copy()?)),
-        RangeSetOrTag::RangeSet(set) => {
-            let pieces = match flavour {
-                Flavour::Npm => pieces_of(alloc, flavour, pre_release, text.trim())?,
-                Flavour::Normal => pieces_of(alloc, flavour, pre_release, text)?,
-                // The strict grammar parses a text to one range.
-                Flavour::Specifier => {
-                    let mut pieces = Vec::new(alloc);
-                    for range in set.0.iter().as_slice() {
-                        let meaning = Meaning::of(alloc, pre_release, range.copy()?)?;
-                        let text = String::from_str(alloc, text)?;
-                        pieces
-                            .push(Piece { text, meaning })
-                            .map_err(AllocError::from)?;
-                    }
-                    pieces
-                }
-            };
-            let normal = range.to_string_normalized(alloc)?;
-            Ok(Explanation::Ranges { pieces, normal })
-        }
+    if let RangeSetOrTag::Tag(tag) = range.inner() {
+        return Ok(Explanation::Tag(tag.copy()?));
     }
+    let pieces = pieces_of(alloc, flavour, pre_release, text)?;
+    let normal = range.to_string_normalized(alloc)?;
+    Ok(Explanation::Ranges { pieces, normal })
 }

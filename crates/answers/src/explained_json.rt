@@ -5,21 +5,20 @@ ghost use Rattle.std.specs.Option.{option_copied};
 ghost use Rattle.serde_json.specs.Data.{string};
 ghost use Rattle.serde_json.specs.View.{view};
 ghost use Rattle.answers.specs.Asking.{IsAnswer};
-ghost use Rattle.answers.specs.ExplainedJson.{Explains, error_for, errors_behind, matches_json, numbers_text, option_list, pre_release_of, pre_releases, ranges_explained};
+ghost use Rattle.answers.specs.ExplainedJson.{Explains, matches_json, numbers_text, option_list, pre_release_of, pre_releases, ranges_explained};
 ghost use Rattle.answers.specs.Filtering.{list_answer};
 
 use crate::asking::{Answer, Problem};
-use crate::errors::{error_json, errors};
+use crate::errors::error_json;
 use crate::explained::{Explanation, Matches, Meaning, Piece, explain};
 use crate::object::{Object, json_text, text_json};
 use crate::parts::{bound_json, displayed_json};
 use semver_base::range::{PreRelease, RangeBound};
 use semver_base::version::Version;
 use semver_req::common::values::Flavour;
-use semver_req::error_places::pieces::InvalidPiece;
 use semver_req::laws::{
-    pieces_are_read_in_one_way, tests_have_one_lowest_version, texts_are_rejected_for_one_reason,
-    texts_have_one_list_of_errors, texts_have_one_outcome,
+    tests_have_one_lowest_version, texts_are_rejected_for_one_reason,
+    texts_have_one_list_of_alternatives, texts_have_one_outcome,
 };
 use serde_json::Value;
 use std::alloc::{AllocError, Global};
@@ -102,52 +101,27 @@ fn matches_json(
         .into_json()
 }
 
-/// Returns the error of an alternative, if it is left out and these are the errors from there on; and the errors of the alternatives behind
-/// it.
-pub fn next_error<'e>(
-    meaning: &Meaning,
-    errors: &'e [InvalidPiece],
-) -> (Option<&'e InvalidPiece>, &'e [InvalidPiece])
-    ensures error { option_copied result.0 ≡ error_for meaning.now errors.now }
-    ensures behind { result.1.now ≡ errors_behind meaning.now errors.now }
-{
-    match (meaning, errors) {
-        (Meaning::LeftOut(_), [error, rest @ ..]) => (Some(error), rest),
-        _ => (None, errors),
-    }
-}
-
-/// Returns the alternatives of a text as JSON, with the errors of the invalid ones, and its canonical form.
+/// Returns the alternatives of a text as JSON, the invalid ones with their errors, and its canonical form.
 pub fn ranges_explained(
     alloc: Global,
     pre_release: PreRelease,
     pieces: &[Piece],
-    errors: &[InvalidPiece],
     normal: &str,
 ) -> Result<Value, AllocError>
     ensures { IfOk result (λ json. view json
-        ≡ ranges_explained pre_release pieces.now errors.now normal.now) }
+        ≡ ranges_explained pre_release pieces.now normal.now) }
 {
     let mut items = Vec::new(alloc);
-    let mut rest = errors;
     for piece in pieces {
-        let (error, behind) = next_error(&piece.meaning, rest);
         let text = piece.text.as_str().trim();
         let alternative = match &piece.meaning {
             Meaning::Range(matches) => matches_json(alloc, pre_release, text, matches),
-            Meaning::LeftOut(_) => {
-                let error = match error {
-                    Some(error) => error_json(alloc, error),
-                    None => Ok(Value::Null),
-                };
-                Object::new(alloc)
-                    .put("error", error)
-                    .put_text("text", Some(text))
-                    .into_json()
-            }
+            Meaning::LeftOut(error) => Object::new(alloc)
+                .put("error", error_json(alloc, error))
+                .put_text("text", Some(text))
+                .into_json(),
         };
         items.push(alternative?)?;
-        rest = behind;
     }
     Object::new(alloc)
         .put("alternatives", Ok(Value::Array(items)))
@@ -167,20 +141,12 @@ pub fn explain_as_json(
 {
     texts_have_one_outcome();
     texts_are_rejected_for_one_reason();
-    texts_have_one_list_of_errors();
-    pieces_are_read_in_one_way();
+    texts_have_one_list_of_alternatives();
     tests_have_one_lowest_version();
     match explain(alloc, flavour, pre_release, text)? {
         Explanation::Tag(tag) => Ok(Answer::Tag(tag)),
         Explanation::Ranges { pieces, normal } => {
-            let errors = errors(alloc, flavour, text)?;
-            let json = ranges_explained(
-                alloc,
-                pre_release,
-                pieces.as_slice(),
-                errors.as_slice(),
-                normal.as_str(),
-            );
+            let json = ranges_explained(alloc, pre_release, pieces.as_slice(), normal.as_str());
             Ok(Answer::Value(json_text(alloc, json)?))
         }
     }

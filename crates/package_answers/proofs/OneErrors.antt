@@ -3,7 +3,7 @@ use Rattle.std.proofs.Common.{◌≡◌, ◌∙◌, ◌+◌, ◌++◌, ℕ, true
 use Rattle.std.specs.List.{list_all}
 use Rattle.std.proofs.lemmas.Bool.{and_parts}
 use Rattle.std.proofs.lemmas.List.{append_cancel_left}
-use Rattle.semver_req.specs.InvalidPieces.{TextsHaveOneListOfErrors, reported}
+use Rattle.semver_req.specs.Alternatives.{TextsHaveOneListOfErrors, reported}
 use Rattle.semver_req.specs.Parsers.{Failure}
 use Rattle.semver_req.specs.TextRejection.{TextsAreRejectedForOneReason}
 use Rattle.semver_req.specs.declared.common.values.Flavour.{Flavour}

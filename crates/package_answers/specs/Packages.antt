@@ -7,7 +7,7 @@ use Rattle.semver_req.specs.Parsers.{Failure}
 use Rattle.semver_req.specs.Requirement.{inner_text}
 use Rattle.semver_req.specs.declared.common.values.Flavour.{Flavour}
 use Rattle.deno_semver.specs.Cuts.{is_not}
-use Rattle.semver_req.specs.InvalidPieces.{AreInvalidBehind}
+use Rattle.semver_req.specs.Alternatives.{AreInvalidBehind}
 use Rattle.semver_req.specs.declared.error_places.pieces.InvalidPiece.{InvalidPiece}
 use Rattle.deno_semver.specs.PackagePlaces.{IsRequirementAt, LacksRequirement}
 use Rattle.deno_semver.specs.PackageOutcome as outcome

@@ -1,9 +1,8 @@
 //! `ranges explain`: what a range means.
 
 use crate::comparing::{print_tag, reject};
-use answers::errors::errors;
 use answers::explained::{Explanation, Matches, Meaning, Piece, explain};
-use answers::explained_json::{next_error, ranges_explained};
+use answers::explained_json::ranges_explained;
 use clap::ArgMatches;
 use deno_semver::{PreRelease, RangeBound, Version, VersionBound, VersionBoundKind, VersionRange};
 use std::fmt;
@@ -105,8 +104,9 @@ impl fmt::Display for Line<'_> {
         let (error, bounds, end) = (style.code(ERROR), style.code(BOUNDS), style.code(END));
         let matches = match &self.piece.meaning {
             Meaning::Range(matches) => matches,
-            Meaning::LeftOut(rejection) => {
-                return write!(f, "{error}left out: {}{end}", rejection.message());
+            Meaning::LeftOut(invalid) => {
+                let message = invalid.cause.rejection().message();
+                return write!(f, "{error}left out: {message}{end}");
             }
         };
         let Some(lowest) = &matches.lowest else {
@@ -139,14 +139,13 @@ fn report_pieces<O: Write, E: Write>(
     normal: &str,
 ) -> Result<Status, Stop> {
     let (alloc, options) = (console.alloc, console.options);
-    let (status, errors) = if has_left_out(pieces) {
-        (Status::Rejected, errors(alloc, options.flavour, text)?)
+    let status = if has_left_out(pieces) {
+        Status::Rejected
     } else {
-        (Status::Answered, Vec::new(alloc))
+        Status::Answered
     };
-    let mut errors = errors.as_slice();
     if options.json {
-        let json = ranges_explained(alloc, options.pre_release, pieces, errors, normal);
+        let json = ranges_explained(alloc, options.pre_release, pieces, normal);
         console.json(json)?;
     } else {
         let style = console.terminal.out;
@@ -160,11 +159,9 @@ fn report_pieces<O: Write, E: Write>(
                     style,
                 },
             )?;
-            let (error, behind) = next_error(&piece.meaning, errors);
-            if let Some(error) = error {
+            if let Meaning::LeftOut(error) = &piece.meaning {
                 print_error(&mut console.out, style, text, error, Some(options.flavour))?;
             }
-            errors = behind;
         }
         print_line(&mut console.out, format_args!("canonical form: {normal}"))?;
     }

@@ -1,15 +1,14 @@
 -- Where a text is split, and what its pieces are then.
-use Rattle.std.proofs.Common.{◌≡◌, ◌≤◌, ◌<◌, ◌+◌, ◌==◌, ℕ, true, false, List, [], ◌∷◌, ◌++◌, length, take, drop, Option, Some, None, refl, sym, subst, ap, ◌∙◌, arith, length-append, inl, inr, MatchOption, unwrap_or, Bor}
+use Rattle.std.proofs.Common.{◌≡◌, ◌≤◌, ◌<◌, ◌+◌, ℕ, Bool, true, false, List, [], ◌∷◌, ◌++◌, length, take, drop, Option, Some, None, refl, sym, subst, ap, ◌∙◌, arith, length-append, inl, inr, MatchOption, Bor}
 use Rattle.std.specs.Char.{is_not_whitespace}
 use Rattle.std.specs.Str.Pattern.{FindsText}
 use Rattle.std.proofs.lemmas.Bool.{cases_lt}
-use Rattle.std.proofs.lemmas.Bool.Decides.{nat_tests}
-use Rattle.std.proofs.lemmas.List.{drop_at, nil_from_length, take-append-drop}
+use Rattle.std.proofs.lemmas.List.{drop_at, take-append-drop}
 use Rattle.std.proofs.lemmas.Str.{NoCharPasses-nil}
-use Rattle.semver_base.specs.Grammar.{IsLongest}
 use Rattle.semver_base.specs.Lexical.{IsWhitespace}
 use Rattle.semver_req.specs.Pieces.{AreMorePieces, no_piece, last_piece, cut_piece, ArePieces, one_piece, first_cut, HasNoBar, IsCutAt, IsTrimmed}
-use Rattle.semver_req.specs.PieceSteps.{IsFirstPiece, IsNextPiece}
+use Rattle.semver_req.specs.PieceSteps.{IsFirstPiece, IsNextPiece, IsPieceOf, IsSplitOff, is_cut, is_whole}
+use Rattle.semver_req.specs.declared.range_set_or_tag.pieces.Piece.{Piece}
 use Rattle.semver_req.proofs.OneOutcome.{more_pieces_one}
 
 -- ---- the leftmost `||`
@@ -29,12 +28,6 @@ cut_at text (Some p) h = record {
   ];
 }
 
--- the pair in an option, or another
-pub unwrapped : (r : Option (Bor (List ℕ) × Bor (List ℕ))) (other answer : Bor (List ℕ) × Bor (List ℕ)) → answer ≡ unwrap_or r other
-    → MatchOption r ((answer.0.now ≡ other.0.now) × (answer.1.now ≡ other.1.now)) (λ p. (answer.0.now ≡ p.0.now) × (answer.1.now ≡ p.1.now))
-unwrapped None other answer is = (ap (λ (p : Bor (List ℕ) × Bor (List ℕ)). p.0.now) is, ap (λ (p : Bor (List ℕ) × Bor (List ℕ)). p.1.now) is)
-unwrapped (Some p) other answer is = (ap (λ (q : Bor (List ℕ) × Bor (List ℕ)). q.0.now) is, ap (λ (q : Bor (List ℕ) × Bor (List ℕ)). q.1.now) is)
-
 -- ---- pieces
 
 nothing_trimmed : IsTrimmed [] []
@@ -47,32 +40,44 @@ nothing_trimmed = record { longest = record { front = []; text_is = refl; stands
 none_of_nothing : (pieces : List (List ℕ)) → AreMorePieces [] pieces → [] ≡ pieces
 none_of_nothing pieces m = more_pieces_one [] [] [] pieces refl (no_piece nothing_trimmed) m
 
-pub first_of_cut : {text piece rest : List ℕ} → IsCutAt text piece rest → IsFirstPiece text piece true rest
-first_of_cut c = λ pieces m. first_cut c m
+-- the first piece of a text
+pub first_piece : {before : ℕ} {text : List ℕ} {p : Piece} → IsPieceOf true before text p → IsFirstPiece text p.text.now p.is_followed p.rest.now
+first_piece {text = text} {p = p} h = first_of p.text.now p.is_followed p.rest.now h.split
+  where
+    first_of : (piece : List ℕ) (followed : Bool) (rest : List ℕ) → IsSplitOff true text piece followed rest → IsFirstPiece text piece followed rest
+    first_of piece false rest (is_whole n is) = λ pieces m. rw is (subst (λ (others : List (List ℕ)). ArePieces text false (text ∷ others)) (none_of_nothing pieces m) (one_piece n))
+    first_of piece true rest (is_cut c) = λ pieces m. first_cut c m
 
-pub first_whole : {text : List ℕ} → HasNoBar text → IsFirstPiece text text false []
-first_whole {text} n = λ pieces m. subst (λ (others : List (List ℕ)). ArePieces text false (text ∷ others)) (none_of_nothing pieces m) (one_piece n)
+-- the next one
+pub next_piece : (p next : Piece) → IsNextPiece p (Some next) → (pieces : List (List ℕ)) → AreMorePieces next.rest.now pieces → AreMorePieces p.rest.now (next.text.now ∷ pieces)
+next_piece p next (text, trimmed, some, h) = next_of next.text.now next.is_followed next.rest.now h.split
+  where
+    next_of : (piece : List ℕ) (followed : Bool) (rest : List ℕ) → IsSplitOff false text piece followed rest → (pieces : List (List ℕ)) → AreMorePieces rest pieces → AreMorePieces p.rest.now (piece ∷ pieces)
+    next_of piece followed rest (is_whole n is) pieces m = rw is (subst (λ (others : List (List ℕ)). AreMorePieces p.rest.now (text ∷ others)) (none_of_nothing pieces m) (last_piece trimmed some n))
+    next_of piece followed rest (is_cut c) pieces m = cut_piece trimmed c m
 
-module _ {rest start : List ℕ} (whitespace : IsLongest IsWhitespace rest tt start) where
-  trimmed : IsTrimmed rest start
-  trimmed = record { longest = whitespace }
+pub trimmed_within : {text rest : List ℕ} → IsTrimmed text rest → length rest ≤ length text
+trimmed_within {rest = rest} h = omega (arith, ap length h.longest.text_is, length-append h.longest.front rest)
 
-  pub next_none : (length start == 0) ≡ true → AreMorePieces rest []
-  next_none empty = let nil : start ≡ [] = nil_from_length start (grind (arith, nat_tests)) in no_piece (rw nil at trimmed)
+-- less of the text is left
+pub next_shorter : (p next : Piece) → IsNextPiece p (Some next) → length next.rest.now < length p.rest.now
+next_shorter p next (text, trimmed, some, h) = shorter next.text.now next.is_followed next.rest.now h.split
+  where
+    shorter : (piece : List ℕ) (followed : Bool) (rest : List ℕ) → IsSplitOff false text piece followed rest → length rest < length p.rest.now
+    shorter piece followed rest (is_whole n is) = omega (arith, some, trimmed_within trimmed)
+    shorter piece followed rest (is_cut c) = omega (arith, trimmed_within trimmed, ap length c.text_is, length-append piece (124 ∷ 124 ∷ rest))
 
-  shorter : length start ≤ length rest
-  shorter = omega (arith, ap length whitespace.text_is, length-append whitespace.front start)
+-- the text ends where it did
+pub next_behind : (p next : Piece) → IsNextPiece p (Some next) → next.behind + length next.rest.now ≡ p.behind + length p.rest.now
+next_behind p next (text, trimmed, some, h) = omega (arith, h.behind, trimmed_within trimmed)
 
-  next_cut : (piece more : List ℕ) → IsCutAt start piece more → IsNextPiece rest (Some (piece, more))
-  next_cut piece more c = (λ pieces m. cut_piece trimmed c m, omega (arith, shorter, ap length c.text_is, length-append piece (124 ∷ 124 ∷ more)))
+-- a piece is a part of its text
+pub piece_within : {first : Bool} {before : ℕ} {text : List ℕ} {p : Piece} → IsPieceOf first before text p → p.start + length p.text.now ≤ before + length text
+piece_within {first} {before} {text} {p} h = within p.text.now p.is_followed p.rest.now h.split
+  where
+    within : (piece : List ℕ) (followed : Bool) (rest : List ℕ) → IsSplitOff first text piece followed rest → p.start + length piece ≤ before + length text
+    within piece followed rest (is_whole n is) = omega (arith, ap length is, h.starts)
+    within piece followed rest (is_cut c) = omega (arith, h.starts, ap length c.text_is, length-append piece (124 ∷ 124 ∷ rest))
 
-  next_whole : (length start == 0) ≡ false → HasNoBar start → IsNextPiece rest (Some (start, []))
-  next_whole full n =
-      let some : 0 < length start = grind (arith, nat_tests) in
-      (λ pieces m. subst (λ (others : List (List ℕ)). AreMorePieces rest (start ∷ others)) (none_of_nothing pieces m) (last_piece trimmed some n), omega (arith, some, shorter))
-
-  -- the split, or the whole
-  pub next_of : (length start == 0) ≡ false → (r : Option (Bor (List ℕ) × Bor (List ℕ))) → MatchOption r (HasNoBar start) (λ p. IsCutAt start p.0.now p.1.now)
-      → (piece more : List ℕ) → MatchOption r ((piece ≡ start) × (more ≡ [])) (λ p. (piece ≡ p.0.now) × (more ≡ p.1.now)) → IsNextPiece rest (Some (piece, more))
-  next_of full None n piece more is = rw (is.0, is.1) (next_whole full n)
-  next_of full (Some p) c piece more is = rw (is.0, is.1) (next_cut p.0.now p.1.now c)
+pub next_within : (p next : Piece) → IsNextPiece p (Some next) → next.start + length next.text.now ≤ p.behind + length p.rest.now
+next_within p next (text, trimmed, some, h) = omega (arith, piece_within h, trimmed_within trimmed)

@@ -12,7 +12,7 @@ pub mod LowestRead
 pub mod LedReadings
 pub mod Operators
 pub mod NpmComparators
-pub mod OneListOfErrors
+pub mod OneListOfAlternatives
 pub mod OneOutcome
 pub mod OneReason
 pub mod OutcomesFit
@@ -58,7 +58,7 @@ pub mod ViableParts
 pub mod Alike
 pub mod AlikeWords
 pub mod AlikeParts
-pub mod InvalidPieces
+pub mod Alternatives
 pub mod KindTexts
 mod ErrorCauses
 pub mod LargeBounds

@@ -10,13 +10,14 @@ use Rattle.semver_base.specs.declared.failure.Rejection.{Rejection}
 use Rattle.semver_req.specs.Comparators.{comparator_numbers, fits}
 use Rattle.semver_req.specs.Outcome.{IsSpecifierRange}
 use Rattle.semver_req.specs.Parsers.{Failure}
-use Rattle.semver_req.specs.PieceReading.{IsCutRejection, IsFirstBad, IsPieceRejection, PiecesAreReadInOneWay, bad_piece, is_out_of_memory, large_bound, large_number, later_bad, numbers_fit, outside, rejection_failure, this_bad}
+use Rattle.semver_req.specs.PieceReading.{IsCutRejection, IsFirstBad, IsPieceRead, IsPieceRejection, bad_piece, is_out_of_memory, large_bound, large_number, later_bad, numbers_fit, outside, rejection_failure, this_bad}
 use Rattle.semver_req.specs.RetainedSet.{retained_range}
 use Rattle.semver_req.specs.SpecifierRejections as strict
 use Rattle.semver_req.specs.SpecifierRejections.{IsSpecifierRejection}
 use Rattle.semver_req.specs.TextRejection.{TextsAreRejectedForOneReason}
 use Rattle.semver_req.specs.declared.common.values.Flavour.{Flavour}
 use Rattle.semver_req.specs.declared.common.values.Flavour.TheVariants.{Npm, Normal, Specifier}
+use Rattle.semver_req.specs.declared.range_set_or_tag.pieces.RangeOrInvalid.{RangeOrInvalid}
 use Rattle.semver_req.specs.declared.range_set_or_tag.pieces.RangeOrInvalid.TheVariants as read
 use Rattle.semver_req.proofs.OneOutcome.{fits_or_not, good_one, pieces_one, some_or_none}
 use Rattle.semver_req.proofs.PieceReadings.{piece_one}
@@ -38,7 +39,7 @@ piece_reason f piece why other (large_bound cs h every lacks) (large_number ds k
 piece_reason f piece why other (large_bound cs h every lacks) (large_bound ds k fit not) = refl
 
 -- what a piece parses to
-pub read_one : PiecesAreReadInOneWay
+pub read_one : (f : Flavour) (b : Bool) (piece : List ℕ) (one other : RangeOrInvalid) → IsPieceRead f b piece one → IsPieceRead f b piece other → one ≡ other
 read_one f b piece (read.Range r) (read.Range s) (cs, g, e) (ds, i, k) = ap read.Range (e ∙ (ap retained_range (good_one f b piece cs ds g i) ∙ sym k))
 read_one f b piece (read.Range r) (read.Invalid why) (cs, g, e) (bad, h) = absurd (bad cs g)
 read_one f b piece (read.Invalid why) (read.Range r) (bad, h) (cs, g, e) = absurd (bad cs g)

@@ -23,7 +23,7 @@ use Rattle.semver_req.specs.RetainedSet.{folded, retained, retained_range, witho
 use Rattle.semver_req.specs.Outcome.{AreGoodOnes, none_left, good, bad, IsBad, IsGood, IsCutOutcome, one_good, one_bad, npm_many, normal_many, normal_rejected, IsTagOr, tag, no_tag, Outcome, Ranges, Tag, Rejected}
 use Rattle.semver_req.specs.PieceReading.{IsFirstBad, this_bad, later_bad, IsCutRejection, is_out_of_memory, bad_piece, IsPieceRead, IsPieceRejection, outside, large_number, large_bound, as_retained, joined, retained_of, read_as, numbers_fit, sums_fit, rejection_failure}
 use Rattle.semver_req.specs.PieceSteps.{AreAllRead, AreRead, IsEverything, IsFirstPiece, IsRejectionOf, IsWholeRead, first_rejection}
-use Rattle.semver_req.specs.Pieces.{ArePieces, IsComparators, IsCutting, npm, normal, IsFilled, IsHyphen, IsPiece}
+use Rattle.semver_req.specs.Pieces.{AreMorePieces, ArePieces, IsComparators, IsCutting, npm, normal, IsFilled, IsHyphen, IsPiece, IsTrimmed, no_piece}
 use Rattle.semver_req.specs.Parsers.{Failure, IsCutReading, IsReading}
 use Rattle.semver_req.specs.Tag.{is_valid_tag}
 use Rattle.semver_req.specs.declared.common.values.Flavour.{Flavour}
@@ -368,6 +368,11 @@ module _ {f : Flavour} {text piece rest : List ℕ} {b : Bool} {all : Alternativ
         one_rejected (rw nil at h.read.good_ones) (rw nil at reported.0) (rw nil at pieces) o t
 
 -- ---- the result for a text
+
+-- no piece is left
+pub all_read : {f : Flavour} {piece rest left : List ℕ} {b : Bool} {others : List (List ℕ)} {all : Alternatives} → ((more : List (List ℕ)) → AreMorePieces left more → AreMorePieces rest (others ++ more)) → AreRead f b (piece ∷ others) all
+    → IsTrimmed left [] → AreAllRead f piece b rest all
+all_read {others = others} joins read none = record { others = others; more = subst (AreMorePieces _) (append-nil others) (joins [] (no_piece none)); read = read }
 
 module _ {f : Flavour} {text piece rest : List ℕ} {b : Bool} {all : Alternatives} (first : IsFirstPiece text piece b rest) (h : AreAllRead f piece b rest all) where
   ranges_reading : {answer : RangeSetOrTag} → IsCutOutcome f text (Ranges h.read.tree) → answer ≡ inner.RangeSet (record { 0 = all.ranges }) → IsCutReading f text answer

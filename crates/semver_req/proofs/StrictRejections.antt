@@ -1,7 +1,7 @@
 -- Why a text isn't a range of the strict grammar.
-use Rattle.std.proofs.Common.{◌≡◌, ℕ, true, List}
+use Rattle.std.proofs.Common.{◌≡◌, ℕ, true, List, refl}
 use Rattle.std.proofs.lemmas.Bool.{and_from}
-use Rattle.semver_base.specs.Comparators.{Comparator}
+use Rattle.semver_base.specs.Comparators.{Comparator, comparator_range}
 use Rattle.semver_base.specs.Lexical.{IsWhitespace}
 use Rattle.semver_base.specs.declared.failure.Rejection.{Rejection}
 use Rattle.semver_base.specs.declared.failure.Rejection.TheVariants.{UnexpectedCharacter}
@@ -15,8 +15,8 @@ use Rattle.semver_req.specs.declared.common.values.Flavour.TheVariants.{Specifie
 use Rattle.semver_req.proofs.Fitting.{whole_front}
 
 module _ {text : List ℕ} where
-  pub whole_range : {range : VersionRange} → IsSingle Specifier text (Range range) → (c : Comparator) × IsSpecifierRange text c × (fits c ≡ true)
-  whole_range (is_range {c} longest numbers sums) = (c, whole_front longest, and_from _ _ numbers sums)
+  pub whole_range : {range : VersionRange} → IsSingle Specifier text (Range range) → (c : Comparator) × IsSpecifierRange text c × (fits c ≡ true) × (range ≡ comparator_range c)
+  whole_range (is_range {c} longest numbers sums) = (c, whole_front longest, and_from _ _ numbers sums, refl)
 
   pub absent_rejection : IsSingle Specifier text Absent → (IsWhitespace text tt → ⊥) → IsStrictRejection text UnexpectedCharacter
   absent_rejection (absent none) not = no_range none not

@@ -78,15 +78,3 @@ pub data IsCutRejection (f : Flavour) (text : List ℕ) : Failure → Type 0 whe
   is_out_of_memory : IsCutRejection f text None
   bad_piece : {b : Bool} {pieces : List (List ℕ)} {rejection : Rejection} → ArePieces text b pieces
       → IsFirstBad f b pieces rejection → IsCutRejection f text (rejection_failure rejection)
-
--- ---- one reading
-
--- a text is split in one way
-abbrev pub TextsAreSplitInOneWay : Type 0
-TextsAreSplitInOneWay = (text : List ℕ) (followed also : Bool) (pieces others : List (List ℕ)) → ArePieces text followed pieces
-    → ArePieces text also others → (followed ≡ also) × (pieces ≡ others)
-
--- a grammar reads a piece in one way
-abbrev pub PiecesAreReadInOneWay : Type 0
-PiecesAreReadInOneWay = (f : Flavour) (followed : Bool) (piece : List ℕ) (one other : RangeOrInvalid)
-    → IsPieceRead f followed piece one → IsPieceRead f followed piece other → one ≡ other

@@ -1,6 +1,5 @@
 -- The steps in which the pieces of a text are parsed; no public contract cites them.
-use Rattle.std.specs.Prelude.{◌≡◌, ◌<◌, ◌==◌, ◌⊎◌, ℕ, List, [], ◌∷◌, ◌++◌, length, Bool, true, Option, Some, None, option_to_list}
-use Rattle.std.specs.Borrow.{Bor}
+use Rattle.std.specs.Prelude.{◌≡◌, ◌<◌, ◌==◌, ◌⊎◌, ◌+◌, ◌-◌, ℕ, List, [], ◌∷◌, ◌++◌, length, Bool, true, false, Option, Some, None, option_to_list}
 use Rattle.semver_base.specs.Comparators.{Comparator}
 use Rattle.semver_base.specs.Lexical.{IsWhitespace}
 use Rattle.semver_base.specs.declared.failure.Rejection.{Rejection}
@@ -9,10 +8,11 @@ use Rattle.semver_req.specs.RetainedSet.{retained}
 use Rattle.semver_req.specs.Outcome.{AreGoodOnes}
 use Rattle.semver_req.specs.Partials.{sized_partial}
 use Rattle.semver_req.specs.PieceReading.{IsFirstBad, IsPieceRead, as_retained, retained_of}
-use Rattle.semver_req.specs.Pieces.{AreMorePieces, ArePieces, hyphen}
+use Rattle.semver_req.specs.Pieces.{AreMorePieces, ArePieces, HasNoBar, IsCutAt, IsTrimmed, hyphen}
 use Rattle.semver_req.specs.declared.common.HyphenRange.{HyphenRange}
 use Rattle.semver_req.specs.declared.common.values.Flavour.{Flavour}
 use Rattle.semver_req.specs.declared.range_set_or_tag.pieces.Alternatives.{Alternatives}
+use Rattle.semver_req.specs.declared.range_set_or_tag.pieces.Piece.{Piece}
 use Rattle.semver_req.specs.declared.range_set_or_tag.pieces.RangeOrInvalid.{RangeOrInvalid}
 use Rattle.semver_req.specs.declared.range_set_or_tag.pieces.RangeOrInvalid.TheVariants as read
 
@@ -23,17 +23,22 @@ abbrev pub IsFirstPiece : List ℕ → List ℕ → Bool → List ℕ → Type 0
 IsFirstPiece text piece followed rest =
     (pieces : List (List ℕ)) → AreMorePieces rest pieces → ArePieces text followed (piece ∷ pieces)
 
--- the next piece of what follows a `||`, and what follows it in turn
-abbrev pub IsNextPiece : List ℕ → Option (List ℕ × List ℕ) → Type 0
-IsNextPiece rest None = AreMorePieces rest []
-IsNextPiece rest (Some p) =
-    ((pieces : List (List ℕ)) → AreMorePieces p.1 pieces → AreMorePieces rest (p.0 ∷ pieces))
-    × (length p.1 < length rest)
+-- the piece that a text begins with, whether it is a first piece that a `||` follows, and what follows its `||`
+pub data IsSplitOff (first : Bool) (text piece : List ℕ) : Bool → List ℕ → Type 0 where
+  is_whole : HasNoBar text → piece ≡ text → IsSplitOff first text piece false []
+  is_cut : {rest : List ℕ} → IsCutAt text piece rest → IsSplitOff first text piece first rest
 
--- two texts behind references
-abbrev pub both_now : Option (Bor (List ℕ) × Bor (List ℕ)) → Option (List ℕ × List ℕ)
-both_now None = None
-both_now (Some p) = Some (p.0.now, p.1.now)
+-- that piece of a text with so many bytes before it, and where it and what follows it start
+pub record IsPieceOf (first : Bool) (before : ℕ) (text : List ℕ) (p : Piece) : Type 0 where
+  pub split : IsSplitOff first text p.text.now p.is_followed p.rest.now
+  pub starts : p.start ≡ before
+  pub behind : p.behind + length p.rest.now ≡ before + length text
+
+-- the next piece, which begins behind whitespace, or none
+abbrev pub IsNextPiece : Piece → Option Piece → Type 0
+IsNextPiece p None = IsTrimmed p.rest.now []
+IsNextPiece p (Some next) = (text : List ℕ) × IsTrimmed p.rest.now text × (0 < length text)
+    × IsPieceOf false (p.behind + (length p.rest.now - length text)) text next
 
 -- ---- parsing
 

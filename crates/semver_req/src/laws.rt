@@ -13,9 +13,8 @@ ghost use Rattle.semver_req.specs.ResolveSteps.{OneWalkFindsTheBest};
 ghost use Rattle.semver_req.specs.RetainedSet.{RetainedSetsMeanTheirTrees};
 ghost use Rattle.semver_req.specs.Outcome.{TextsHaveOneOutcome};
 ghost use Rattle.semver_req.specs.TextRejection.{TextsAreRejectedForOneReason};
-ghost use Rattle.semver_req.specs.InvalidPieces.{TextsHaveOneListOfErrors};
+ghost use Rattle.semver_req.specs.Alternatives.{TextsHaveOneListOfAlternatives, TextsHaveOneListOfErrors};
 ghost use Rattle.semver_req.specs.Pieces.{NormalPiecesAreNpms};
-ghost use Rattle.semver_req.specs.PieceReading.{PiecesAreReadInOneWay, TextsAreSplitInOneWay};
 ghost use Rattle.semver_req.specs.AnyOrder.{TestsHaveOneLowestVersion};
 ghost use Rattle.semver_req.specs.Parsers.{ReadRequirementsAreAnswers};
 ghost use Rattle.semver_req.specs.Sameness.{inner_reported};
@@ -57,16 +56,15 @@ pub fn texts_are_rejected_for_one_reason()
     ensures { TextsAreRejectedForOneReason }
 {}
 
+/// A text has one list of alternatives in each grammar: how it is split, and the range or the error of each.
+pub fn texts_have_one_list_of_alternatives()
+    ensures { TextsHaveOneListOfAlternatives }
+{}
+
 /// A text has one list of errors in each grammar: of its invalid alternatives, where each starts, ends and is wrong, why it is
 /// rejected, and what is expected there.
 pub fn texts_have_one_list_of_errors()
     ensures { TextsHaveOneListOfErrors }
-{}
-
-/// A text is split at its `||` in one way, and a grammar reads each piece in one way: as one range, or as invalid for one reason.
-pub fn pieces_are_read_in_one_way()
-    ensures split { TextsAreSplitInOneWay }
-    ensures read { PiecesAreReadInOneWay }
 {}
 
 /// A test of versions has one lowest version without a build that is read back from its text, or none.

@@ -16,8 +16,7 @@ mod pieces;
 use crate::common::short::{short_piece, star_or_qualified};
 use crate::common::values::Flavour;
 use pieces::Alternatives;
-pub(crate) use pieces::cut;
-pub use pieces::{FirstPiece, RangeOrInvalid, first_piece, next_piece};
+pub use pieces::{Piece, RangeOrInvalid};
 use semver_base::failure::ParseFailure;
 use semver_base::lexical::is_all_whitespace;
 use semver_base::range::VersionRangeSet;
@@ -132,24 +131,24 @@ impl RangeSetOrTag {
             (λ failure. (failure ≡ None) ⊎ IsCutOutcome flavour text.now Rejected) }
         ensures rejection { IfErr result (IsCutRejection flavour text.now) }
     {
-        let first = first_piece(text);
+        let first = Piece::first(0, text);
         let mut all = Alternatives {
             ranges: CowVec::new(alloc),
             rejected: None,
             is_only: true,
         };
-        all.add(alloc, first.piece, first.is_followed, flavour)?;
-        let mut rest = first.rest;
-        while let Some((piece, more)) = next_piece(rest) {
+        all.add(alloc, first.text, first.is_followed, flavour)?;
+        let mut piece = first;
+        while let Some(next) = piece.next() {
             all.is_only = false;
-            all.add(alloc, piece, false, flavour)?;
-            rest = more;
+            all.add(alloc, next.text, false, flavour)?;
+            piece = next;
         }
         let Some(rejection) = all.rejected else {
             return Ok(RangeSetOrTag::RangeSet(VersionRangeSet(all.ranges)));
         };
         if all.is_only {
-            let tag = first.piece.trim();
+            let tag = first.text.trim();
             if is_valid_npm_tag(tag) {
                 return Ok(RangeSetOrTag::Tag(SmallStackString::from_str(alloc, tag)?));
             }

@@ -1,12 +1,12 @@
 //! How npm's and the normalized grammar split a text at each `||`, and how they parse each piece.
 
-ghost use Rattle.std.specs.Prelude.{◌≡◌, ◌++◌, ◌∷◌, [], IfOk, List, MatchOption, None, OnOk, ℕ};
+ghost use Rattle.std.specs.Prelude.{◌≡◌, ◌+◌, ◌++◌, ◌<◌, ◌^◌, ◌∷◌, [], IfOk, List, MatchOption, None, OnOk, length, true, ℕ};
 ghost use Rattle.semver_base.specs.Grammar.{IsSeen};
 ghost use Rattle.semver_base.specs.declared.failure.Rejection.TheVariants.{BoundTooLarge};
 ghost use Rattle.semver_base.specs.declared.partial.Partial.{Partial};
 ghost use Rattle.semver_req.specs.Partials.{sized_partial};
 ghost use Rattle.semver_req.specs.PieceReading.{IsPieceRead, joined, retained_of};
-ghost use Rattle.semver_req.specs.PieceSteps.{IsAdded, IsFirstPiece, IsHyphenRead, IsNextPiece, IsWholeRead, both_now};
+ghost use Rattle.semver_req.specs.PieceSteps.{IsAdded, IsHyphenRead, IsNextPiece, IsPieceOf, IsWholeRead};
 ghost use Rattle.semver_req.specs.Pieces.{HasNoBar, IsComparators, IsCutAt, IsCutting, hyphen};
 ghost use Rattle.semver_req.specs.Comparators.{IsComparator};
 ghost use Rattle.semver_req.specs.Written.{IsFront, comparator_of};
@@ -199,51 +199,72 @@ impl RangeOrInvalid {
     }
 }
 
-/// The first piece of a text.
-#[derive(Clone, Copy)]
-pub struct FirstPiece<'a> {
-    /// The text before the leftmost `||`, or the whole text.
-    pub piece: &'a str,
-    /// Whether a `||` follows the piece.
-    pub is_followed: bool,
-    /// What follows its `||`, or nothing.
-    pub rest: &'a str,
-}
-
 // Splits the text at the leftmost `||`.
-pub(crate) fn cut(text: &str) -> Option<(&str, &str)>
+fn cut(text: &str) -> Option<(&str, &str)>
     ensures { MatchOption result (HasNoBar text.now) (λ p. IsCutAt text.now p.0.now p.1.now) }
 {
     text.split_once("||")
 }
 
-/// Splits off the first piece of the text, at its leftmost `||` (node-semver's `range-set`).
-pub fn first_piece(text: &str) -> FirstPiece<'_>
-    ensures { IsFirstPiece text.now result.piece.now result.is_followed result.rest.now }
-{
-    match cut(text) {
-        Some((piece, rest)) => FirstPiece {
-            piece,
-            is_followed: true,
-            rest,
-        },
-        None => FirstPiece {
-            piece: text,
-            is_followed: false,
-            rest: "",
-        },
-    }
+/// A piece of a text, and what follows it.
+#[derive(Clone, Copy)]
+pub struct Piece<'a> {
+    /// How many bytes stand before it.
+    pub start: usize,
+    /// The piece as written, without the whitespace that follows the `||` before it.
+    pub text: &'a str,
+    /// Whether it is the first piece, and a `||` follows it.
+    pub is_followed: bool,
+    // How many bytes stand before what follows its `||`.
+    behind: usize,
+    // What follows its `||`, or nothing.
+    rest: &'a str,
 }
 
-/// Splits off the next piece of what follows a `||`, without leading whitespace; `None` if only whitespace follows.
-pub fn next_piece(rest: &str) -> Option<(&str, &str)>
-    ensures { IsNextPiece rest.now (both_now result) }
-{
-    let start = after_whitespace(rest);
-    if start.is_empty() {
-        return None;
+impl<'a> Piece<'a> {
+    // The piece at the start of the text, with so many bytes before it: what stands before the leftmost `||`, or the whole text.
+    fn of(start: usize, text: &'a str, is_first: bool) -> Piece<'a>
+        requires { start + length text.now < 2 ^ 64 }
+        ensures { IsPieceOf is_first start text.now result }
+    {
+        match cut(text) {
+            Some((piece, rest)) => Piece {
+                start,
+                text: piece,
+                is_followed: is_first,
+                behind: start + (text.len() - rest.len()),
+                rest,
+            },
+            None => Piece {
+                start,
+                text,
+                is_followed: false,
+                behind: start + text.len(),
+                rest: "",
+            },
+        }
     }
-    Some(cut(start).unwrap_or((start, "")))
+
+    /// Splits off the first piece of a text, with so many bytes before it (node-semver's `range-set`).
+    pub fn first(before: usize, text: &'a str) -> Piece<'a>
+        requires { before + length text.now < 2 ^ 64 }
+        ensures { IsPieceOf true before text.now result }
+    {
+        Piece::of(before, text, true)
+    }
+
+    /// Splits off the next piece, without leading whitespace; `None` if only whitespace follows.
+    pub fn next(self) -> Option<Piece<'a>>
+        requires { self.behind + length self.rest.now < 2 ^ 64 }
+        ensures { IsNextPiece self.entry result }
+    {
+        let text = after_whitespace(self.rest);
+        if text.is_empty() {
+            return None;
+        }
+        let start = self.behind + (self.rest.len() - text.len());
+        Some(Piece::of(start, text, false))
+    }
 }
 
 /// The parsed pieces of a text.

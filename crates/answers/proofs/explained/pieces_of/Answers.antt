@@ -1,43 +1,39 @@
-use Rattle.std.proofs.Common.{◌≡◌, [], ◌∷◌, ◌++◌, rules, append_assoc, subst, sym}
-use Rattle.answers.proofs.ExplainedPieces.{explained_first, explained_more}
-use Rattle.answers.specs.Explained.{AreAllExplained}
+use Rattle.std.proofs.Common.{◌≡◌, ◌++◌, ◌∷◌, [], ◌∙◌, length, rules, subst, sym}
+use Rattle.std.specs.Vec.{vec_len}
+use Rattle.std.proofs.lemmas.Iterator.Adapters.{YieldsList-from_vec}
+use Rattle.std.proofs.lemmas.Iterator.Consumers.{YieldsList-end, YieldsList-turn}
+use Rattle.std.proofs.lemmas.List.{map-id}
+use Rattle.semver_req.specs.Alternatives.{AreAlternatives}
+use Rattle.answers.specs.Explained.{AreExplained}
+use Rattle.answers.proofs.ExplainedPieces.{explained_more, writable_at}
 use Rattle.answers.proofs.explained.pieces_of.Goals as goal
 
-pub loop-piece-init : goal.loop-piece-init
-loop-piece-init c =
-    let head = c.first_piece-first.result in
-    let pushed : c.push.new.self.items ≡ c.in_ok-head.head ∷ [] = search rules in
-    record {
-      is_text = search rules;
-      followed = head.is_followed;
-      first = head.piece.now;
-      others = [];
-      joins = c.first_piece-first.ensures;
-      read = subst (λ items. AreAllExplained c.args.flavour c.args.pre_release head.is_followed (head.piece.now ∷ []) items) (sym pushed) (c.in_ok-head.ensures, tt);
-    }
+pub of-requires : goal.of-requires
+of-requires c =
+    let l = c.loop-alternative in
+    let all = c.in_ok-alternative-items.alternative-items.items in
+    let gives = c.into_iter-alternative-iterator.ensures.into_iter_gives in
+    let count : vec_len c.in_ok-alternative-items.alternative-items ≡ length all = search rules in
+    let given = YieldsList-from_vec {s = c.into_iter-alternative-iterator.result} all gives.0 (gives.1 ∙ count) in
+    let at = YieldsList-turn given l.yielded l.alternative-iterator l.yielded_by c.next.result c.next.new.self c.in-Some.alternative c.in-Some.is c.next.ensures.steps in
+    writable_at all (length l.yielded) c.in-Some.alternative at.0 at.1 c.in_ok-alternative-items.ensures.writable
 
-pub loop-piece-preserved : goal.loop-piece-preserved
-loop-piece-preserved c =
-    let so_far = c.loop-piece.invariant in
-    let next = rw c.in-Some.is at c.next_piece.ensures in
-    let piece = c.in_ok-piece in
-    let pushed : c.push-in-Some.new.self.items ≡ c.loop-piece.pieces.items ++ piece.piece ∷ [] = search rules in
-    record {
-      is_text = search rules;
-      followed = so_far.followed;
-      first = so_far.first;
-      others = so_far.others ++ c.in-Some.piece.now ∷ [];
-      joins = λ pieces m. rw append_assoc (so_far.joins (c.in-Some.piece.now ∷ pieces) (next.0 pieces m));
-      read = subst (λ items. AreAllExplained c.args.flavour c.args.pre_release so_far.followed (so_far.first ∷ so_far.others ++ c.in-Some.piece.now ∷ []) items) (sym pushed)
-          (explained_more c.args.flavour c.args.pre_release so_far.followed so_far.first so_far.others c.loop-piece.pieces.items c.in-Some.piece.now piece.piece so_far.read piece.ensures);
-    }
+pub loop-alternative-preserved : goal.loop-alternative-preserved
+loop-alternative-preserved c =
+    let l = c.loop-alternative in
+    subst (AreExplained c.args.pre_release (l.yielded ++ c.in-Some.alternative ∷ [])) (sym c.in_ok-push.ensures.items)
+    (explained_more c.args.pre_release l.yielded l.pieces.items c.in-Some.alternative c.in_ok-of.field-0 l.invariant c.in_ok-of.ensures)
 
 pub returns : goal.returns
 returns c =
-    let so_far = c.loop-piece.invariant in
+    let l = c.loop-alternative in
+    let all = c.in_ok-alternative-items.alternative-items.items in
+    let gives = c.into_iter-alternative-iterator.ensures.into_iter_gives in
+    let count : vec_len c.in_ok-alternative-items.alternative-items ≡ length all = search rules in
+    let given = YieldsList-from_vec {s = c.into_iter-alternative-iterator.result} all gives.0 (gives.1 ∙ count) in
+    let end = YieldsList-end given l.yielded l.alternative-iterator l.yielded_by c.next.result c.next.new.self c.in-None.is c.next.ensures.steps in
     record {
-      followed = so_far.followed;
-      texts = so_far.first ∷ so_far.others ++ [];
-      are_pieces = so_far.joins [] c.in_default.ensures;
-      explained = explained_first c.args.flavour c.args.pre_release so_far.followed so_far.first so_far.others c.loop-piece.pieces.items so_far.read;
+      alternatives = l.yielded;
+      are = subst (AreAlternatives c.args.flavour 0 c.args.text.now) (sym end.0 ∙ map-id l.yielded) c.in_ok-alternative-items.ensures.are;
+      explained = l.invariant;
     }

@@ -15,7 +15,7 @@ use Rattle.answers.proofs.explained_json.explain_as_json.Goals.{After-tests_have
 only : (c : After-tests_have_one_lowest_version) (outcome : Result (Answer (List ℕ)) Fault) → (outcome ≡ Err OutOfMemory) ⊎ Explains c.args.pre_release c.args.flavour c.args.text.now outcome
     → IsOutcomeOf OutOfMemory (Explains c.args.pre_release c.args.flavour c.args.text.now) outcome
 only c = one_answer OutOfMemory (Explains c.args.pre_release c.args.flavour c.args.text.now)
-    (one_explanation c.texts_have_one_outcome.ensures c.args.flavour c.args.text.now c.args.pre_release c.tests_have_one_lowest_version.ensures c.pieces_are_read_in_one_way.ensures.read c.pieces_are_read_in_one_way.ensures.split c.texts_have_one_list_of_errors.ensures c.texts_are_rejected_for_one_reason.ensures)
+    (one_explanation c.texts_have_one_outcome.ensures c.args.flavour c.args.text.now c.args.pre_release c.tests_have_one_lowest_version.ensures c.texts_have_one_list_of_alternatives.ensures c.texts_are_rejected_for_one_reason.ensures)
 
 pub returns-in_err-tag : goal.returns-in_err-tag
 returns-in_err-tag c =
@@ -23,14 +23,13 @@ returns-in_err-tag c =
     rw (p.1, p.2) (only (goal.at.returns-in_err-tag c).After-tests_have_one_lowest_version _ (not_explained c.args.pre_release c.args.flavour c.args.text.now (fault_of c.in_err-tag.field-0.0) _ refl c.in_err-tag.ensures.invalid))
 
 pub returns-in-Tag : goal.returns-in-Tag
-returns-in-Tag c = only (goal.at.returns-in-Tag c).After-tests_have_one_lowest_version _ (inr (explained (rw c.in-Tag.is at c.in_ok-tag.ensures.answer)))
+returns-in-Tag c = only (goal.at.returns-in-Tag c).After-tests_have_one_lowest_version _ (inr (explained (explanation.Tag c.in-Tag.tag) (rw c.in-Tag.is at c.in_ok-tag.ensures.answer)))
 
 pub returns-in_ok-json_text-in-Ranges : goal.returns-in_ok-json_text-in-Ranges
 returns-in_ok-json_text-in-Ranges c =
     let is = rw c.in-Ranges.is at c.in_ok-tag.ensures.answer in
     let r = c.in-Ranges in
-    let errors = c.in_ok-errors-in-Ranges.errors.items in
     let normal = string_bytes r.normal in
-    let json = rw (c.as_slice.ensures.value, c.as_slice-in-Ranges.ensures.value, c.as_str.ensures.value) at c.ranges_explained-json.ensures in
-    let text = c.in_ok-json_text-in-Ranges.ensures (ranges_explained c.args.pre_release r.pieces.items errors normal) (explained_no_float c.args.pre_release r.pieces.items errors normal) json in
-    only (goal.at.returns-in_ok-json_text-in-Ranges c).After-tests_have_one_lowest_version _ (inr (explained (r.pieces.items, errors, normal, (explanation.Ranges r.pieces r.normal, is, (refl, refl)), c.in_ok-errors-in-Ranges.ensures, text)))
+    let json = rw (c.as_slice.ensures.value, c.as_str.ensures.value) at c.ranges_explained-json.ensures in
+    let text = c.in_ok-json_text-in-Ranges.ensures (ranges_explained c.args.pre_release r.pieces.items normal) (explained_no_float c.args.pre_release r.pieces.items normal) json in
+    only (goal.at.returns-in_ok-json_text-in-Ranges c).After-tests_have_one_lowest_version _ (inr (rw text (explained (explanation.Ranges r.pieces r.normal) is)))

@@ -1,32 +1,32 @@
-use Rattle.std.proofs.Common.{refl}
-use Rattle.std.proofs.lemmas.Result.{IfOk-weaker}
-use Rattle.semver_req.specs.Causes.{whitespace}
-use Rattle.semver_req.specs.Pieces.{npm, normal}
-use Rattle.semver_req.proofs.InvalidPieces.{no_error, strict_error, trimmed_errors}
-use Rattle.semver_req.proofs.StrictRejections.{absent_rejection, followed_rejection, large_rejection, whole_range}
+use Rattle.std.proofs.Common.{◌≡◌, ◌∙◌, ◌++◌, ◌∷◌, [], ap, length, rules, sym}
+use Rattle.std.specs.Vec.{vec_len}
+use Rattle.std.proofs.lemmas.Iterator.Adapters.{YieldsList-from_vec}
+use Rattle.std.proofs.lemmas.Iterator.Consumers.{YieldsList-end}
+use Rattle.std.proofs.lemmas.List.{map-id}
+use Rattle.semver_req.specs.Alternatives.{errors_of}
+use Rattle.semver_req.specs.declared.error_places.pieces.InvalidPiece.{InvalidPiece}
+use Rattle.semver_req.proofs.Alternatives.{error_more, range_more}
 use Rattle.semver_req.proofs.error_places.pieces.invalid_pieces_behind.Goals as goal
-use Rattle.semver_req.proofs.error_places.pieces.invalid_pieces_behind.Goals.{in-Absent, in-Absent-2, in-Followed, in-TooLarge}
 
-pub errors_of-requires-clause-cuts : goal.errors_of-requires-clause-cuts
-errors_of-requires-clause-cuts c = npm
+pub loop-alternative-preserved : goal.loop-alternative-preserved
+loop-alternative-preserved c =
+    let l = c.loop-alternative in
+    let error : InvalidPiece = c.in-Invalid.error in
+    let pushed : c.push.new.self.items ≡ l.errors.items ++ error ∷ [] = search rules in
+    pushed ∙ (ap (λ errors. errors ++ error ∷ []) l.invariant ∙ sym (error_more l.yielded c.in-Some.alternative error c.in-Invalid.is))
 
-pub errors_of-requires-in-Normal-clause-cuts : goal.errors_of-requires-in-Normal-clause-cuts
-errors_of-requires-in-Normal-clause-cuts c = normal
+pub loop-alternative-preserved-in-Range : goal.loop-alternative-preserved-in-Range
+loop-alternative-preserved-in-Range c = c.loop-alternative.invariant ∙ sym (range_more c.loop-alternative.yielded c.in-Some.alternative c.in-Range._range c.in-Range.is)
 
-pub returns-in-Npm : goal.returns-in-Npm
-returns-in-Npm c =
-    rw c.in-Npm.is (IfOk-weaker c.errors_of.result _ _ (λ errors h. trimmed_errors c.trim_start-rest.ensures.value c.trim_start-rest.ensures.trim c.trim_end.ensures.trim h) c.errors_of.ensures)
+pub loop-alternative-preserved-in-Range-2 : goal.loop-alternative-preserved-in-Range-2
+loop-alternative-preserved-in-Range-2 c = c.loop-alternative.invariant ∙ sym (range_more c.loop-alternative.yielded c.in-Some.alternative c.in-Range._range c.in-Range.is)
 
-pub returns-in-Range : goal.returns-in-Range
-returns-in-Range c = rw c.in-Specifier.is (no_error c.new-errors.ensures.items (whole_range (rw c.in-Range.is at c.in_ok-found-in-Specifier.ensures)))
-
-pub error_of-requires-clause-rejected : goal.error_of-requires-clause-rejected
-error_of-requires-clause-rejected c = elim c.match-found.branch [
-  | in-Absent w ↦ rw w.rejection-is (whitespace (w.if-is_all_whitespace.ensures.0 refl))
-  | in-Absent-2 w ↦ rw w.rejection-is (absent_rejection (rw w.in-Absent-2.is at c.in_ok-found-in-Specifier.ensures) (λ k. cc (w.if-is_all_whitespace.ensures.1 k)))
-  | in-Followed w ↦ rw w.rejection-is (followed_rejection (rw w.in-Followed.is at c.in_ok-found-in-Specifier.ensures))
-  | in-TooLarge w ↦ rw w.rejection-is (large_rejection (rw w.in-TooLarge.is at c.in_ok-found-in-Specifier.ensures))
-]
-
-pub returns-in_ok-push-in-Specifier : goal.returns-in_ok-push-in-Specifier
-returns-in_ok-push-in-Specifier c = rw c.in-Specifier.is (strict_error c.new-errors.ensures.items c.in_ok-push-in-Specifier.ensures.items c.in_ok-error-in-Specifier.ensures)
+pub returns : goal.returns
+returns c =
+    let l = c.loop-alternative in
+    let all = c.in_ok-alternative-items.alternative-items.items in
+    let gives = c.into_iter-alternative-iterator.ensures.into_iter_gives in
+    let count : vec_len c.in_ok-alternative-items.alternative-items ≡ length all = search rules in
+    let given = YieldsList-from_vec {s = c.into_iter-alternative-iterator.result} all gives.0 (gives.1 ∙ count) in
+    let end = YieldsList-end given l.yielded l.alternative-iterator l.yielded_by c.next.result c.next.new.self c.in-None.is c.next.ensures.steps in
+    (all, c.in_ok-alternative-items.ensures.are, l.invariant ∙ ap errors_of (sym (map-id l.yielded) ∙ end.0))

@@ -1,21 +1,20 @@
--- A text has one list of errors.
-use Rattle.std.proofs.Common.{◌≡◌, ◌∙◌, ◌<◌, ◌+◌, ◌-◌, ◌↔◌, ℕ, Bool, true, false, IsTrue, List, [], ◌∷◌, ◌++◌, length, map, ◌⊎◌, Option, Some, None, IfSome, refl, sym, ap, arith, inl, inr, append_assoc, append-nil, drop, take}
+-- A text has one list of alternatives, so one list of errors.
+use Rattle.std.proofs.Common.{◌≡◌, ◌∙◌, ◌<◌, ◌+◌, ◌-◌, ◌↔◌, ℕ, Bool, true, false, IsTrue, List, [], ◌∷◌, ◌++◌, length, map, ◌⊎◌, Option, Some, None, IfSome, Ok, Err, refl, sym, ap, arith, inl, inr, append_assoc, append-nil, drop, take}
 use Rattle.std.specs.Str.{NonePass, encode_utf8_all, trim}
 use Rattle.std.specs.Str.Pattern.{HasCharAt}
 use Rattle.std.specs.Char.{encode_utf8}
 use Rattle.std.specs.Cmp.{both_ways as one_truth}
 use Rattle.std.proofs.lemmas.Bool.{both_ways}
-use Rattle.std.proofs.lemmas.List.{length-take-le, map-append, take-append-drop}
+use Rattle.std.proofs.lemmas.List.{length-take-le, take-append-drop}
 use Rattle.std.proofs.lemmas.Str.{cons_from_encodes, encode_same}
-use Rattle.semver_base.specs.Comparators.{Comparator}
+use Rattle.semver_base.specs.Comparators.{Comparator, comparator_range}
 use Rattle.semver_base.specs.Grammar.{IsLongest}
 use Rattle.semver_base.specs.GrammarLaws.{one_front}
 use Rattle.semver_base.specs.ValueLaws.{in_place}
 use Rattle.semver_base.specs.declared.failure.Rejection.{Rejection}
 use Rattle.semver_req.specs.Causes.{IsBoundAt, IsCauseAt, IsFirstOutsideTag, IsFirstOverflow, IsRejected, IsStrictRejection, bound_too_large, comparator, empty, followed, front_bound, front_number, hyphen_range, is_outside_tag, later_overflows, no_range, no_tag, overflows, rejection_of, this_overflows, too_large, unexpected, whitespace}
 use Rattle.semver_req.specs.Comparators.{fits}
-use Rattle.semver_req.specs.InvalidPieces as pieces
-use Rattle.semver_req.specs.InvalidPieces.{AreErrorsOf, AreMoreErrors, AreTrimmedErrors, IsErrorAt, IsErrorOf, IsStrictError, TextsHaveOneListOfErrors, cut_piece, expectation, first_cut, last_piece, no_piece, one_piece, reported}
+use Rattle.semver_req.specs.Alternatives.{AreMoreAlternatives, AreSplit, AreTrimmed, IsAlternative, IsErrorOf, IsParsed, IsStrictlyParsed, IsWhole, TextsHaveOneListOfAlternatives, TextsHaveOneListOfErrors, cut_piece, errors_of, expectation, first_cut, is_whole, last_piece, no_piece, one_piece, parsed_as, reported, told, with_error}
 use Rattle.semver_req.specs.Kinds.{AreExpected, IsExpectation, IsExpected, itself, kind_text, may_follow, may_not, no_kind}
 use Rattle.semver_req.specs.Outcome.{IsSpecifierRange}
 use Rattle.semver_req.specs.PieceReading.{numbers_fit}
@@ -27,10 +26,14 @@ use Rattle.semver_req.specs.declared.error_places.causes.Cause.{Cause}
 use Rattle.semver_req.specs.declared.error_places.causes.Cause.TheVariants.{Unexpected}
 use Rattle.semver_req.specs.declared.error_places.expected.Expected.{Expected}
 use Rattle.semver_req.specs.declared.error_places.expected.Kind.{Kind}
+use Rattle.semver_req.specs.declared.error_places.pieces.Alternative.{Alternative}
 use Rattle.semver_req.specs.declared.error_places.pieces.InvalidPiece.{InvalidPiece}
+use Rattle.semver_req.specs.declared.error_places.pieces.Parsed.{Parsed}
+use Rattle.semver_req.specs.declared.error_places.pieces.Parsed.TheVariants.{Range, Invalid}
+use Rattle.semver_req.specs.declared.range_set_or_tag.pieces.RangeOrInvalid.TheVariants as read
 use Rattle.semver_req.proofs.ComparatorReadings.{comparator_goes, comparator_one}
 use Rattle.semver_req.proofs.OneOutcome.{cut_one, cut_some, fits_or_not, no_cut, none_some, some_or_none, trimmed_one, whole_or_not}
-use Rattle.semver_req.proofs.OneReason.{bound_no_fit, front_fits, number_no_fit, piece_reason}
+use Rattle.semver_req.proofs.OneReason.{bound_no_fit, front_fits, number_no_fit, piece_reason, read_one}
 use Rattle.semver_req.proofs.PieceReadings.{hyphen_no_second}
 use Rattle.semver_req.proofs.SpecifierRanges.{no_whitespace_none}
 
@@ -181,7 +184,7 @@ range_or_rejected p f (followed q g some) = whole_or_not p q some
 range_or_rejected p f (front_number {c = d} q lacks) = fits_or_not p q f (number_no_fit d lacks)
 range_or_rejected p f (front_bound {c = d} q every lacks) = fits_or_not p q f (bound_no_fit d every lacks)
 
-whole_text : {text : List ℕ} {c : Comparator} → IsSpecifierRange text c → IsLongest IsSpecifierRange text c []
+pub whole_text : {text : List ℕ} {c : Comparator} → IsSpecifierRange text c → IsLongest IsSpecifierRange text c []
 whole_text {text} h = rw append-nil at (in_place (comparator_one Specifier) (comparator_goes Specifier) text [] h tt)
 
 -- ---- the error of an alternative
@@ -199,58 +202,89 @@ error_one f start piece e d h k =
     let place : e.place ≡ d.place = h.there ∙ (ap (λ n. start + n) cause.0 ∙ sym k.there) in
     rw (h.starts ∙ sym k.starts, h.ends ∙ sym k.ends, place, reason, cause.1) refl
 
-piece_errors_one : (f : Flavour) (b : Bool) (start : ℕ) (piece : List ℕ) (errors others : List InvalidPiece) → IsErrorAt f b start piece errors → IsErrorAt f b start piece others → map reported errors ≡ map reported others
-piece_errors_one f b start piece [] [] h k = refl
-piece_errors_one f b start piece [] (d ∷ []) h k = absurd (k.0 h.0 h.1)
-piece_errors_one f b start piece (e ∷ []) [] h k = absurd (h.0 k.0 k.1)
-piece_errors_one f b start piece (e ∷ []) (d ∷ []) h k = ap (λ r. r ∷ []) (error_one f start piece e d h.1 k.1)
-piece_errors_one f b start piece (e ∷ x ∷ errors) others h k = absurd h
-piece_errors_one f b start piece errors (d ∷ y ∷ others) h k = absurd k
+-- ---- alternatives
 
--- ---- the errors of a text
+parsed_one : (f : Flavour) (b : Bool) (start : ℕ) (piece : List ℕ) (p q : Parsed) → IsParsed f b start piece p → IsParsed f b start piece q → parsed_as p ≡ parsed_as q
+parsed_one f b start piece (Range r) (Range s) h k =
+    let same : read.Range r ≡ read.Range s = read_one f b piece (read.Range r) (read.Range s) h k in
+    let range : r ≡ s = cc same in
+    ap Ok range
+parsed_one f b start piece (Range r) (Invalid d) (cs, good, is) (bad, k) = absurd (bad cs good)
+parsed_one f b start piece (Invalid e) (Range s) (bad, h) (cs, good, is) = absurd (bad cs good)
+parsed_one f b start piece (Invalid e) (Invalid d) h k = ap Err (error_one f start piece e d h.1 k.1)
 
--- those of a piece, and those of what follows it
-both_one : (these those errors others : List InvalidPiece) → map reported these ≡ map reported those → map reported errors ≡ map reported others → map reported (these ++ errors) ≡ map reported (those ++ others)
-both_one these those errors others e g = rw (map-append reported these errors, map-append reported those others, e, g) refl
+alternative_one : (f : Flavour) (flag : Bool) (start : ℕ) (piece : List ℕ) (a b : Alternative) → IsAlternative f flag start piece a → IsAlternative f flag start piece b → told a ≡ told b
+alternative_one f flag start piece a b h k = rw (h.is_text ∙ sym k.is_text, parsed_one f flag start piece a.parsed b.parsed h.parsed k.parsed) refl
 
-more_errors_one : (f : Flavour) (m n : ℕ) (x y : List ℕ) (errors others : List InvalidPiece) → m ≡ n → x ≡ y → AreMoreErrors f m x errors → AreMoreErrors f n y others → map reported errors ≡ map reported others
-more_errors_one f m n x y errors others s e (no_piece t) (no_piece u) = refl
-more_errors_one f m n x y errors others s e (no_piece t) (last_piece {piece = q} u some o h) = none_some q (trimmed_one (rw e at t) u) some
-more_errors_one f m n x y errors others s e (no_piece t) (cut_piece {start = r} b u c h a) = none_some r (trimmed_one (rw e at t) u) (cut_some c)
-more_errors_one f m n x y errors others s e (last_piece {piece = p} t some b h) (no_piece u) = none_some p (sym (trimmed_one (rw e at t) u)) some
-more_errors_one f m n x y errors others s e (last_piece {piece = p} t some b h) (last_piece {piece = q} u more o k) =
+next_one : (a b : Alternative) (others more : List Alternative) → told a ≡ told b → map told others ≡ map told more → map told (a ∷ others) ≡ map told (b ∷ more)
+next_one a b others more e g = rw (e, g) refl
+
+more_one : (f : Flavour) (m n : ℕ) (x y : List ℕ) (xs ys : List Alternative) → m ≡ n → x ≡ y → AreMoreAlternatives f m x xs → AreMoreAlternatives f n y ys → map told xs ≡ map told ys
+more_one f m n x y xs ys s e (no_piece t) (no_piece u) = refl
+more_one f m n x y xs ys s e (no_piece t) (last_piece {piece = q} u some o h) = none_some q (trimmed_one (rw e at t) u) some
+more_one f m n x y xs ys s e (no_piece t) (cut_piece {start = r} u c h a) = none_some r (trimmed_one (rw e at t) u) (cut_some c)
+more_one f m n x y xs ys s e (last_piece {piece = p} t some b h) (no_piece u) = none_some p (sym (trimmed_one (rw e at t) u)) some
+more_one f m n x y xs ys s e (last_piece {piece = p} {a} t some o h) (last_piece {piece = q} {a = b} u more l k) =
     let same = trimmed_one (rw e at t) u in
-    piece_errors_one f false (n + (length y - length q)) q errors others (rw (s, e, same) at h) k
-more_errors_one f m n x y errors others s e (last_piece {piece = p} t some b h) (cut_piece {start = r} a u c k l) = no_cut (rw (trimmed_one (rw e at t) u) at b) c
-more_errors_one f m n x y errors others s e (cut_piece {start = r} a t c h l) (no_piece u) = none_some r (sym (trimmed_one (rw e at t) u)) (cut_some c)
-more_errors_one f m n x y errors others s e (cut_piece {start = r} a t c h l) (last_piece {piece = q} u some b k) = no_cut b (rw (trimmed_one (rw e at t) u) at c)
-more_errors_one f m n x y errors others s e (cut_piece {start = i} {piece = p} {rest = v} {errors = more} a t c h l) (cut_piece {start = j} {piece = q} {rest = w} {errors = rest} b u d k r) =
+    next_one a b [] [] (alternative_one f false (n + (length y - length q)) q a b (rw (s, e, same) at h) k) refl
+more_one f m n x y xs ys s e (last_piece t some b h) (cut_piece u c k l) = no_cut (rw (trimmed_one (rw e at t) u) at b) c
+more_one f m n x y xs ys s e (cut_piece {start = r} t c h l) (no_piece u) = none_some r (sym (trimmed_one (rw e at t) u)) (cut_some c)
+more_one f m n x y xs ys s e (cut_piece t c h l) (last_piece u some b k) = no_cut b (rw (trimmed_one (rw e at t) u) at c)
+more_one f m n x y xs ys s e (cut_piece {start = i} {piece = p} {rest = v} {a} {others} t c h l) (cut_piece {start = j} {piece = q} {rest = w} {a = b} {others = more} u d k r) =
     let start = trimmed_one (rw e at t) u in
     let both = cut_one (rw start at c) d in
-    both_one a b more rest (piece_errors_one f false (n + (length y - length j)) q a b (rw (s, e, start, both.0) at h) k)
-    (more_errors_one f (m + (length x - length v)) (n + (length y - length w)) v w more rest (rw (s, e, both.1) refl) both.1 l r)
+    next_one a b others more (alternative_one f false (n + (length y - length j)) q a b (rw (s, e, start, both.0) at h) k)
+    (more_one f (m + (length x - length v)) (n + (length y - length w)) v w others more (rw (s, e, both.1) refl) both.1 l r)
 
-errors_one : (f : Flavour) (before : ℕ) (text : List ℕ) (errors others : List InvalidPiece) → AreErrorsOf f before text errors → AreErrorsOf f before text others → map reported errors ≡ map reported others
-errors_one f before text errors others (one_piece n h) (one_piece m k) = piece_errors_one f false before text errors others h k
-errors_one f before text errors others (one_piece n h) (first_cut b c k r) = no_cut n c
-errors_one f before text errors others (first_cut a c h l) (one_piece n k) = no_cut n c
-errors_one f before text errors others (first_cut {piece = p} {rest = v} {errors = more} a c h l) (first_cut {piece = q} {rest = w} {errors = rest} b d k r) =
+split_one : (f : Flavour) (before : ℕ) (text : List ℕ) (xs ys : List Alternative) → AreSplit f before text xs → AreSplit f before text ys → map told xs ≡ map told ys
+split_one f before text xs ys (one_piece {a} n h) (one_piece {a = b} m k) = next_one a b [] [] (alternative_one f false before text a b h k) refl
+split_one f before text xs ys (one_piece n h) (first_cut c k r) = no_cut n c
+split_one f before text xs ys (first_cut c h l) (one_piece n k) = no_cut n c
+split_one f before text xs ys (first_cut {piece = p} {rest = v} {a} {others} c h l) (first_cut {piece = q} {rest = w} {a = b} {others = more} d k r) =
     let both = cut_one c d in
-    both_one a b more rest (piece_errors_one f true before q a b (rw both.0 at h) k)
-    (more_errors_one f (before + (length text - length v)) (before + (length text - length w)) v w more rest (rw both.1 refl) both.1 l r)
+    next_one a b others more (alternative_one f true before q a b (rw both.0 at h) k)
+    (more_one f (before + (length text - length v)) (before + (length text - length w)) v w others more (rw both.1 refl) both.1 l r)
 
-trimmed_errors_one : (f : Flavour) (before : ℕ) (text : List ℕ) (errors others : List InvalidPiece) → AreTrimmedErrors f before text errors → AreTrimmedErrors f before text others → map reported errors ≡ map reported others
-trimmed_errors_one f before text errors others h k =
+trimmed_text_one : (before : ℕ) (text : List ℕ) (xs ys : List Alternative) → AreTrimmed Npm before text xs → AreTrimmed Npm before text ys → map told xs ≡ map told ys
+trimmed_text_one before text xs ys h k =
     let rest = (one_front h.whitespace k.whitespace).1 in
-    errors_one f (before + (length text - length k.rest)) (trim text) errors others (rw rest at h.errors_of) k.errors_of
+    split_one Npm (before + (length text - length k.rest)) (trim text) xs ys (rw rest at h.split) k.split
 
-strict_errors_one : (before : ℕ) (text : List ℕ) (errors others : List InvalidPiece) → IsStrictError before text errors → IsStrictError before text others → map reported errors ≡ map reported others
-strict_errors_one before text errors others (pieces.range c h f) (pieces.range d k g) = refl
-strict_errors_one before text errors others (pieces.range c h f) (pieces.no_range k) = range_or_rejected (whole_text h) f k.rejected
-strict_errors_one before text errors others (pieces.no_range h) (pieces.range d k g) = range_or_rejected (whole_text k) g h.rejected
-strict_errors_one before text errors others (pieces.no_range {e} h) (pieces.no_range {e = d} k) = ap (λ r. r ∷ []) (error_one Specifier before text e d h k)
+strictly_one : (before : ℕ) (text : List ℕ) (p q : Parsed) → IsStrictlyParsed before text p → IsStrictlyParsed before text q → parsed_as p ≡ parsed_as q
+strictly_one before text (Range r) (Range s) (c, h, fit, e) (d, k, small, g) =
+    let same : c ≡ d = (comparator_one Specifier).one text c d h k in
+    ap Ok (e ∙ (ap comparator_range same ∙ sym g))
+strictly_one before text (Range r) (Invalid d) (c, h, fit, e) k = range_or_rejected (whole_text h) fit k.rejected
+strictly_one before text (Invalid e) (Range s) h (d, k, fit, g) = range_or_rejected (whole_text k) fit h.rejected
+strictly_one before text (Invalid e) (Invalid d) h k = ap Err (error_one Specifier before text e d h k)
+
+whole_one : (before : ℕ) (text : List ℕ) (xs ys : List Alternative) → IsWhole before text xs → IsWhole before text ys → map told xs ≡ map told ys
+whole_one before text xs ys (is_whole {a} e h) (is_whole {a = b} g k) = next_one a b [] [] (rw (e ∙ sym g, strictly_one before text a.parsed b.parsed h k) refl) refl
+
+pub one_list_of_alternatives : TextsHaveOneListOfAlternatives
+one_list_of_alternatives Npm before text xs ys h k = trimmed_text_one before text xs ys h k
+one_list_of_alternatives Normal before text xs ys h k = split_one Normal before text xs ys h k
+one_list_of_alternatives Specifier before text xs ys h k = whole_one before text xs ys h k
+
+-- ---- errors
+
+with_same : (p q : Parsed) (es ds : List InvalidPiece) → parsed_as p ≡ parsed_as q → map reported es ≡ map reported ds → map reported (with_error p es) ≡ map reported (with_error q ds)
+with_same (Range r) (Range s) es ds e g = g
+with_same (Range r) (Invalid d) es ds e g = absurd (cc e)
+with_same (Invalid d) (Range s) es ds e g = absurd (cc e)
+with_same (Invalid x) (Invalid y) es ds e g =
+    let head : reported x ≡ reported y = cc e in
+    rw (head, g) refl
+
+same_errors : (xs ys : List Alternative) → map told xs ≡ map told ys → map reported (errors_of xs) ≡ map reported (errors_of ys)
+same_errors [] [] e = refl
+same_errors [] (b ∷ ys) e = absurd (cc e)
+same_errors (a ∷ xs) [] e = absurd (cc e)
+same_errors (a ∷ xs) (b ∷ ys) e =
+    let head : told a ≡ told b = cc e in
+    let parsed : parsed_as a.parsed ≡ parsed_as b.parsed = ap (λ t. t.1) head in
+    let tail : map told xs ≡ map told ys = cc e in
+    with_same a.parsed b.parsed (errors_of xs) (errors_of ys) parsed (same_errors xs ys tail)
 
 pub one_list_of_errors : TextsHaveOneListOfErrors
-one_list_of_errors Npm before text errors others h k = trimmed_errors_one Npm before text errors others h k
-one_list_of_errors Normal before text errors others h k = errors_one Normal before text errors others h k
-one_list_of_errors Specifier before text errors others h k = strict_errors_one before text errors others h k
+one_list_of_errors f before text errors others (xs, h, e) (ys, k, g) = rw (e, g) (same_errors xs ys (one_list_of_alternatives f before text xs ys h k))

@@ -1,6 +1,6 @@
 use Rattle.std.proofs.Common.{arith}
 use Rattle.semver_req.proofs.CausesWithin.{cause_within}
-use Rattle.semver_req.proofs.error_places.pieces.error_of.Goals as goal
+use Rattle.semver_req.proofs.error_places.pieces.InvalidPiece.of.Goals as goal
 
 pub overflow_add-result-2 : goal.overflow_add-result-2
 overflow_add-result-2 c =

@@ -1,0 +1,5 @@
+use Rattle.semver_req.proofs.OneListOfAlternatives.{one_list_of_alternatives}
+use Rattle.semver_req.proofs.laws.texts_have_one_list_of_alternatives.Goals as goal
+
+pub returns : goal.returns
+returns c = one_list_of_alternatives
