@@ -10,7 +10,7 @@ use Rattle.semver_req.specs.PieceSteps.{IsNextPiece, IsPieceOf, IsSplitOff, is_c
 use Rattle.semver_req.specs.declared.common.values.Flavour.{Flavour}
 use Rattle.semver_req.specs.declared.common.values.Flavour.TheVariants.{Npm, Specifier}
 use Rattle.semver_req.specs.declared.range_set_or_tag.pieces.Piece.{Piece}
-use Rattle.semver_req.specs.Alternatives.{AreMoreAlternatives, AreSplit, AreTrimmed, AreWritable, IsAlternative, IsParsed, IsStrictlyParsed, IsWritable, cut_piece, errors_of, first_cut, last_piece, no_piece, one_piece, with_error}
+use Rattle.semver_req.specs.Alternatives.{AreMoreAlternatives, AreSplit, AreTrimmed, AreWritable, IsAlternative, IsParsedPiece, IsStrictlyParsed, IsWritable, cut_piece, errors_of, first_cut, last_piece, no_piece, one_piece, with_error}
 use Rattle.semver_req.specs.declared.error_places.pieces.Alternative.{Alternative}
 use Rattle.semver_req.specs.declared.error_places.pieces.InvalidPiece.{InvalidPiece}
 use Rattle.semver_req.specs.declared.error_places.pieces.Parsed.{Parsed}
@@ -68,7 +68,7 @@ trimmed_alternatives {text = text} {rest} h start end split = record { rest = re
 
 -- ---- texts that parse back
 
-parsed_writable : (f : Flavour) (flag : Bool) (start : ℕ) (piece : List ℕ) (parsed : Parsed) → IsParsed f flag start piece parsed → IsWritable parsed
+parsed_writable : (f : Flavour) (flag : Bool) (start : ℕ) (piece : List ℕ) (parsed : Parsed) → IsParsedPiece f flag start piece parsed → IsWritable parsed
 parsed_writable f flag start piece (Range range) h = piece_writable f flag piece range h
 parsed_writable f flag start piece (Invalid e) h = tt
 

@@ -14,7 +14,7 @@ use Rattle.semver_base.specs.ValueLaws.{in_place}
 use Rattle.semver_base.specs.declared.failure.Rejection.{Rejection}
 use Rattle.semver_req.specs.Causes.{IsBoundAt, IsCauseAt, IsFirstOutsideTag, IsFirstOverflow, IsRejected, IsStrictRejection, bound_too_large, comparator, empty, followed, front_bound, front_number, hyphen_range, is_outside_tag, later_overflows, no_range, no_tag, overflows, rejection_of, this_overflows, too_large, unexpected, whitespace}
 use Rattle.semver_req.specs.Comparators.{fits}
-use Rattle.semver_req.specs.Alternatives.{AreMoreAlternatives, AreSplit, AreTrimmed, IsAlternative, IsErrorOf, IsParsed, IsStrictlyParsed, IsWhole, TextsHaveOneListOfAlternatives, TextsHaveOneListOfErrors, cut_piece, errors_of, expectation, first_cut, is_whole, last_piece, no_piece, one_piece, parsed_as, reported, told, with_error}
+use Rattle.semver_req.specs.Alternatives.{AreMoreAlternatives, AreSplit, AreTrimmed, IsAlternative, IsErrorOf, IsParsedPiece, IsStrictlyParsed, IsWhole, TextsHaveOneListOfAlternatives, TextsHaveOneListOfErrors, cut_piece, errors_of, expectation, first_cut, is_whole, last_piece, no_piece, one_piece, parsed_as, reported, told, with_error}
 use Rattle.semver_req.specs.Kinds.{AreExpected, IsExpectation, IsExpected, itself, kind_text, may_follow, may_not, no_kind}
 use Rattle.semver_req.specs.Outcome.{IsSpecifierRange}
 use Rattle.semver_req.specs.PieceReading.{numbers_fit}
@@ -204,7 +204,7 @@ error_one f start piece e d h k =
 
 -- ---- alternatives
 
-parsed_one : (f : Flavour) (b : Bool) (start : ℕ) (piece : List ℕ) (p q : Parsed) → IsParsed f b start piece p → IsParsed f b start piece q → parsed_as p ≡ parsed_as q
+parsed_one : (f : Flavour) (b : Bool) (start : ℕ) (piece : List ℕ) (p q : Parsed) → IsParsedPiece f b start piece p → IsParsedPiece f b start piece q → parsed_as p ≡ parsed_as q
 parsed_one f b start piece (Range r) (Range s) h k =
     let same : read.Range r ≡ read.Range s = read_one f b piece (read.Range r) (read.Range s) h k in
     let range : r ≡ s = cc same in

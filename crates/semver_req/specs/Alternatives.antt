@@ -38,14 +38,14 @@ pub record IsErrorOf (f : Flavour) (start : ℕ) (piece : List ℕ) (e : Invalid
   pub there : e.place ≡ start + place
 
 -- what a piece that starts here parses to, which is followed by `||` or not
-abbrev pub IsParsed : Flavour → Bool → ℕ → List ℕ → Parsed → Type 0
-IsParsed f followed start piece (Range range) = IsPieceRead f followed piece (read.Range range)
-IsParsed f followed start piece (Invalid e) = IsBad f followed piece × IsErrorOf f start piece e
+abbrev pub IsParsedPiece : Flavour → Bool → ℕ → List ℕ → Parsed → Type 0
+IsParsedPiece f followed start piece (Range range) = IsPieceRead f followed piece (read.Range range)
+IsParsedPiece f followed start piece (Invalid e) = IsBad f followed piece × IsErrorOf f start piece e
 
 -- the alternative is this piece, and what it parses to
 pub record IsAlternative (f : Flavour) (followed : Bool) (start : ℕ) (piece : List ℕ) (a : Alternative) : Type 0 where
   pub is_text : a.text.now ≡ piece
-  pub parsed : IsParsed f followed start piece a.parsed
+  pub parsed : IsParsedPiece f followed start piece a.parsed
 
 -- ---- the alternatives of a text
 

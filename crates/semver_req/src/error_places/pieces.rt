@@ -1,7 +1,7 @@
 //! The alternatives of a text, which `||` separates, and what a grammar makes of each.
 
 ghost use Rattle.std.specs.Prelude.{◌≡◌, ◌+◌, ◌<◌, ◌^◌, IfOk, length};
-ghost use Rattle.semver_req.specs.Alternatives.{AreAlternatives, AreInvalidBehind, AreInvalidPieces, AreSplit, AreWritable, IsErrorOf, IsParsed, IsStrictlyParsed};
+ghost use Rattle.semver_req.specs.Alternatives.{AreAlternatives, AreInvalidBehind, AreInvalidPieces, AreSplit, AreWritable, IsErrorOf, IsParsedPiece, IsStrictlyParsed};
 ghost use Rattle.semver_req.specs.Causes.{IsRejected};
 ghost use Rattle.semver_req.specs.Pieces.{IsCutting};
 
@@ -73,7 +73,7 @@ impl Parsed {
         requires in_memory { piece.start + length piece.text.now < 2 ^ 64 }
         requires splits { IsCutting flavour }
         ensures { let p = piece.entry in IfOk result
-            (IsParsed flavour p.is_followed p.start p.text.now) }
+            (IsParsedPiece flavour p.is_followed p.start p.text.now) }
     {
         match RangeOrInvalid::parse(alloc, piece.text, piece.is_followed, flavour)? {
             RangeOrInvalid::Range(range) => Ok(Parsed::Range(range)),
