@@ -3,7 +3,7 @@ use Rattle.std.proofs.Common.{◌≡◌, ℕ, Bool, true, false, List, [], ◌�
 use Rattle.std.specs.List.{list_all}
 use Rattle.std.proofs.lemmas.Bool.{and_from, or_left, or_right}
 use Rattle.std.proofs.lemmas.Bool.Decides.{nat_tests}
-use Rattle.semver_base.specs.Comparators.{Caret, Comparator, Tilde, primitive_kind_text}
+use Rattle.semver_base.specs.Comparators.{Comparator, primitive_kind_text}
 use Rattle.semver_base.specs.Grammar.{After, Either, this, that, Mapped, Prefixed}
 use Rattle.semver_base.specs.Lexical.{IsWhitespace, IsByte, IsSomeWhitespace}
 use Rattle.semver_base.specs.declared.partial.Partial.{Partial}
@@ -19,6 +19,7 @@ use Rattle.semver_req.specs.Written.{IsTildes}
 use Rattle.semver_req.specs.declared.common.values.Flavour.{Flavour}
 use Rattle.semver_req.specs.declared.common.values.Flavour.TheVariants.{Npm, Normal, Specifier}
 use Rattle.semver_req.proofs.Components.{is_component_byte}
+use Rattle.semver_req.proofs.GrammarTexts.{IsCaretOf, IsTildeOf}
 use Rattle.semver_req.proofs.PartialReadings.{is_bare_byte, partial_one, bare_made, bare_one}
 use Rattle.semver_req.proofs.Partials.{partial_begins, partial_some}
 use Rattle.semver_req.proofs.PrimitiveKinds.{any_begins, whitespace_apart, is_partial_byte, primitive_kind_apart}
@@ -258,16 +259,6 @@ caret_made : MadeOf IsNpmCaret is_caret_byte
 caret_made = mapped_made (mapped_made (joined_made (made_wider is_word_byte is_caret_byte word_caret ignored_word) (prefixed_made (made_wider is_word_byte is_caret_byte word_caret led_word) 94 refl)))
 
 -- ---- `~` and `^` of both grammars, and the others
-
-abbrev pub IsTildeOf : Flavour → List ℕ → Comparator → Type 0
-IsTildeOf Npm = IsNpmTilde
-IsTildeOf Normal = Mapped Tilde (Prefixed 126 (IsPartial Normal))
-IsTildeOf Specifier = Mapped Tilde (Prefixed 126 (IsPartial Specifier))
-
-abbrev pub IsCaretOf : Flavour → List ℕ → Comparator → Type 0
-IsCaretOf Npm = IsNpmCaret
-IsCaretOf Normal = Mapped Caret (Prefixed 94 (IsPartial Normal))
-IsCaretOf Specifier = Mapped Caret (Prefixed 94 (IsPartial Specifier))
 
 tilde_one : (f : Flavour) → Unambiguous (IsTildeOf f)
 tilde_one Npm = mapped_one (core_unambiguous Npm tilde_core)

@@ -50,14 +50,16 @@ pub mod WithoutSeparators
 pub mod WritableRanges
 pub mod WrittenComparators
 pub mod WrittenSets
+pub mod Rules
+pub mod RuleLaws
+pub mod States
+pub mod Symbols
+pub mod RuleTexts
+pub mod Grammars
+pub mod WhitespaceTexts
+pub mod GrammarTexts
 pub mod Endings
-pub mod WordEndings
-pub mod PartialEndings
-pub mod NpmEndings
 pub mod ViableParts
-pub mod Alike
-pub mod AlikeWords
-pub mod AlikeParts
 pub mod Alternatives
 pub mod KindTexts
 mod ErrorCauses
@@ -65,7 +67,6 @@ pub mod LargeBounds
 pub mod CausesWithin
 pub mod StrictRejections
 pub mod Trimmed
-pub mod VersionEndings
 pub mod VersionTexts
 pub mod BestMatches
 pub mod ListOrder

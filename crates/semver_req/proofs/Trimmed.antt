@@ -1,5 +1,5 @@
 -- What trimming leaves of a text, and the whitespace around it.
-use Rattle.std.proofs.Common.{◌≡◌, ◌<◌, ℕ, false, List, [], ◌∷◌, ◌++◌, length, refl, sym, ap, ◌∙◌, inl, inr, arith, append_assoc, length-append, IsUtf8, encode_utf8, encode_utf8_all, drop_at, take_at}
+use Rattle.std.proofs.Common.{◌≡◌, ◌<◌, ℕ, false, List, [], ◌∷◌, ◌++◌, length, get_or, refl, sym, ap, ◌∙◌, inl, inr, arith, append_assoc, length-append, IsUtf8, encode_utf8, encode_utf8_all, drop_at, take_at}
 use Rattle.std.specs.Char.{is_not_whitespace, is_whitespace}
 use Rattle.std.specs.Str.{IsCharBoundary, NonePass, chars, drop_trailing_whitespace, skip_leading_whitespace, trim, trim_end, trim_start}
 use Rattle.std.proofs.lemmas.Bool.{cases_Bool, not-false}
@@ -8,7 +8,10 @@ use Rattle.std.proofs.lemmas.Str.{IsCharBoundary-before_ascii, IsUtf8-drop, IsUt
 use Rattle.semver_base.specs.Lexical.{IsWhitespace}
 use Rattle.semver_base.specs.SolidLaws.{EndsSolid, StartsSolid, solid_no_white, solid_small, stays}
 use Rattle.semver_req.proofs.TagPieces.{IsLeft, piece_left, skipped_twice}
-use Rattle.semver_req.proofs.WordEndings.{get_or-append-here}
+
+get_or-append-here : (p : List ℕ) (x : ℕ) (m : List ℕ) → get_or (p ++ (x ∷ m)) (length p) 0 ≡ x
+get_or-append-here [] x m = refl
+get_or-append-here (y ∷ p) x m = get_or-append-here p x m
 
 -- ---- lists of characters
 

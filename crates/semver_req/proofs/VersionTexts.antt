@@ -1,7 +1,8 @@
 -- From what the version parser answers to which prefixes are viable.
-use Rattle.std.proofs.Common.{◌≡◌, ◌<◌, ℕ, Bor, true, List, [], ◌∷◌, ◌++◌, length, Option, Some, None, refl, sym, ap, subst, ◌∙◌, arith, append_assoc, append-nil, IsUtf8, codes}
+use Rattle.std.proofs.Common.{◌≡◌, ◌<◌, ℕ, Bor, true, List, [], ◌∷◌, ◌++◌, length, Option, Some, None, refl, sym, ap, subst, ◌∙◌, arith, append_assoc, append-nil, IsUtf8, codes, inl, inr}
 use Rattle.std.specs.List.{list_all}
 use Rattle.std.specs.Str.{trim}
+use Rattle.std.proofs.lemmas.Bool.{and_parts}
 use Rattle.std.proofs.lemmas.Str.{IsUtf8-append, IsUtf8-nil, NoCharPasses-append}
 use Rattle.semver_base.specs.Grammar.{Optional, Prefixed}
 use Rattle.semver_base.specs.Lexical.{IsByte, IsWhitespace}
@@ -14,10 +15,11 @@ use Rattle.semver_base.specs.TokenLaws.{loose_some}
 use Rattle.semver_req.specs.Viable.{IsTextOf, IsVersionText, IsViablePrefix}
 use Rattle.semver_req.specs.declared.error_places.Grammar.{Grammar}
 use Rattle.semver_req.specs.declared.error_places.Grammar.TheVariants.{Ranges, Versions}
-use Rattle.semver_req.proofs.ViableParts.{empty_part, one_byte_text, starts_text}
+use Rattle.semver_req.proofs.Endings.{ascii_text, is_ascii, version_begun, version_ended, version_endings, viable_by}
+use Rattle.semver_req.proofs.GrammarTexts.{IsCore, IsSurrounded}
+use Rattle.semver_req.proofs.RuleTexts.{Any, EndsBy}
+use Rattle.semver_req.proofs.ViableParts.{empty_part, starts_text}
 use Rattle.semver_req.proofs.Trimmed.{around, trim_within}
-use Rattle.semver_req.proofs.VersionEndings.{IsCore, IsSurrounded, IsVersionEnding, one_core, one_fits, ones, short, surrounded_ended, surrounded_is, three, two, behind_one, behind_two}
-use Rattle.semver_req.proofs.WordEndings.{nothing, digit}
 use Rattle.semver_req.proofs.Partials.{no_whitespace}
 
 -- ---- the text of a version without whitespace in front
@@ -133,56 +135,34 @@ text_of text v u h fit =
 
 -- ---- which prefixes are viable
 
-more_text : (c : ℕ) (text : List ℕ) → c < 128 → IsUtf8 text → IsUtf8 (c ∷ text)
-more_text c text h u = IsUtf8-append (c ∷ []) text (one_byte_text c h) u
-
-one_text : IsUtf8 (49 ∷ [])
-one_text = one_byte_text 49 (omega arith)
-
-tail_text : IsUtf8 (46 ∷ 49 ∷ [])
-tail_text = more_text 46 (49 ∷ []) (omega arith) one_text
-
 -- the prefix with this ending is a version's text
 abbrev pub IsMadeBy : List ℕ → List ℕ → Type 0
 IsMadeBy prefix ending = (v : Version) × IsVersionText (prefix ++ ending) v
 
-pub made_viable : (prefix ending : List ℕ) → IsUtf8 ending → IsMadeBy prefix ending → IsViablePrefix IsVersionText prefix
-made_viable prefix ending u h = record { more = ending; value = h.0; is_text = u; stands = h.1 }
+-- with the endings for versions with whitespace around them the prefix makes versions' texts
+endings_made : (prefix : List ℕ) → IsUtf8 prefix → (es : List (List ℕ)) → list_all is_ascii es ≡ true → EndsBy IsSurrounded AllNumbersFit prefix es → EndsBy IsVersionText Any prefix es
+endings_made prefix u [] k h = h
+endings_made prefix u (e ∷ es) k (inl h) = inl (h.0, text_of (prefix ++ e) h.0 (IsUtf8-append prefix e u (ascii_text e (and_parts (is_ascii e) (list_all is_ascii es) k).0)) h.1 h.2, tt)
+endings_made prefix u (e ∷ es) k (inr h) = inr (endings_made prefix u es (and_parts (is_ascii e) (list_all is_ascii es) k).1 h)
 
-ending_text : {e : List ℕ} → IsVersionEnding e → IsUtf8 e
-ending_text (short nothing) = IsUtf8-nil
-ending_text (short digit) = one_text
-ending_text two = more_text 49 _ (omega arith) tail_text
-ending_text three = more_text 49 _ (omega arith) (more_text 46 _ (omega arith) (more_text 49 _ (omega arith) tail_text))
-ending_text behind_one = more_text 46 _ (omega arith) (more_text 49 _ (omega arith) tail_text)
-ending_text behind_two = tail_text
-
--- some ending makes a version's text of the prefix
-abbrev HasEnding : List ℕ → Type 0
-HasEnding prefix = (ending : List ℕ) × IsVersionEnding ending × IsMadeBy prefix ending
-
-some_empty : HasEnding []
-some_empty = (ones, three, (version_of one_core, text_of ones (version_of one_core) (ending_text three) surrounded_is one_fits))
-
-pub some_ending : (prefix : List ℕ) → IsUtf8 prefix → IsViablePrefix IsVersionText prefix → HasEnding prefix
-some_ending [] u v = some_empty
-some_ending (x ∷ p) u v =
-    let h = surrounded_of ((x ∷ p) ++ v.more) v.value (IsUtf8-append (x ∷ p) v.more u v.is_text) v.stands in
-    let k = surrounded_ended.ends x p v.more v.value (starts_text v.more v.is_text) h.0 h.1 in
-    (k.ending, k.is_ending, (k.value, text_of ((x ∷ p) ++ k.ending) k.value (IsUtf8-append (x ∷ p) k.ending u (ending_text k.is_ending)) k.stands k.has))
+some_ending : (prefix : List ℕ) → IsUtf8 prefix → IsViablePrefix IsVersionText prefix → EndsBy IsVersionText Any prefix version_endings
+some_ending prefix u v =
+    let h = surrounded_of (prefix ++ v.more) v.value (IsUtf8-append prefix v.more u v.is_text) v.stands in
+    endings_made prefix u version_endings refl (version_ended prefix v.more (starts_text v.more v.is_text) v.value h.0 h.1)
 
 -- so it isn't viable if none of them does
 pub none_made : (prefix : List ℕ) → IsUtf8 prefix → (IsMadeBy prefix (codes "") → ⊥) → (IsMadeBy prefix (codes "1") → ⊥) → (IsMadeBy prefix (codes "1.1") → ⊥) → (IsMadeBy prefix (codes "1.1.1") → ⊥)
     → (IsMadeBy prefix (codes ".1") → ⊥) → (IsMadeBy prefix (codes ".1.1") → ⊥) → IsViablePrefix IsVersionText prefix → ⊥
-none_made prefix u none one pair all last rest v = let k = some_ending prefix u v in by k.0 k.1 k.2
+none_made prefix u none one pair all last rest v = by (some_ending prefix u v)
   where
-    by : (e : List ℕ) → IsVersionEnding e → IsMadeBy prefix e → ⊥
-    by e (short nothing) m = none m
-    by e (short digit) m = one m
-    by e two m = pair m
-    by e three m = all m
-    by e behind_one m = rest m
-    by e behind_two m = last m
+    by : EndsBy IsVersionText Any prefix version_endings → ⊥
+    by (inl h) = none (h.0, h.1)
+    by (inr (inl h)) = one (h.0, h.1)
+    by (inr (inr (inl h))) = pair (h.0, h.1)
+    by (inr (inr (inr (inl h)))) = all (h.0, h.1)
+    by (inr (inr (inr (inr (inl h))))) = last (h.0, h.1)
+    by (inr (inr (inr (inr (inr (inl h)))))) = rest (h.0, h.1)
+    by (inr (inr (inr (inr (inr (inr h)))))) = h
 
 -- what stands in for a missing item of a list of texts
 abbrev pub no_item : Bor (List ℕ)
@@ -192,7 +172,7 @@ no_item = record { ref_ptr = (0, 0); now = [] }
 
 pub empty_viable : (g : Grammar) → IsViablePrefix (IsTextOf g) []
 empty_viable (Ranges f sizes) = empty_part f sizes
-empty_viable Versions = let k = some_empty in made_viable [] k.0 (ending_text k.1) k.2
+empty_viable Versions = viable_by IsVersionText Any IsVersionText (λ t v h i. h) [] version_endings refl (endings_made [] IsUtf8-nil version_endings refl version_begun)
 
 pub text_some : (g : Grammar) (text : List ℕ) → (IsViablePrefix (IsTextOf g) text → ⊥) → 0 < length text
 text_some g [] never = absurd (never (empty_viable g))

@@ -2,14 +2,13 @@
 use Rattle.std.proofs.Common.{◌≡◌, ◌≤◌, ◌<◌, ◌+◌, ◌-◌, ℕ, Bool, true, false, List, [], ◌∷◌, ◌++◌, length, take, drop, refl, sym, ap, subst, ◌∙◌, arith, inl, inr, append_assoc, append-nil, length-append, ◌↔◌, ◌==◌, ◌&&◌, IsTrue, IsUtf8, codes, IsCharBoundary}
 use Rattle.std.specs.List.{list_all, slice_range}
 use Rattle.std.specs.Str.Parse.{digits_value}
-use Rattle.std.proofs.Math.Utf8.{low_scalar}
 use Rattle.std.proofs.lemmas.Bool.{and_from, and_parts, both_ways, cases_Bool, cases_lt}
 use Rattle.std.proofs.lemmas.Bool.Decides.{nat_tests}
 use Rattle.std.proofs.lemmas.List.{drop-take, length-take-le, nil_from_length, take-append-drop, take-append-le, take_all}
 use Rattle.std.proofs.lemmas.List.Folds.{list_all-append}
-use Rattle.std.proofs.lemmas.Str.{IsCharBoundary-start, IsUtf8-append, IsUtf8-between, IsUtf8-encode, IsUtf8-nil, encode_ascii}
+use Rattle.std.proofs.lemmas.Str.{IsCharBoundary-start, IsUtf8-append, IsUtf8-between, IsUtf8-nil}
 use Rattle.semver_base.specs.Comparators.{Bare, Caret, Comparator, Hyphen, OfPrimitive, Tilde}
-use Rattle.semver_base.specs.Grammar.{this, that, HasNone, Listed}
+use Rattle.semver_base.specs.Grammar.{HasNone}
 use Rattle.semver_base.specs.PartialTable.{all_fit, number_fits}
 use Rattle.semver_base.specs.declared.failure.Rejection.{Rejection}
 use Rattle.semver_base.specs.declared.failure.Rejection.TheVariants.{UnexpectedCharacter}
@@ -24,7 +23,7 @@ use Rattle.semver_req.specs.Comparators.{fits, numbers}
 use Rattle.semver_req.specs.Outcome.{IsBad, IsGood, IsSpecifierRange}
 use Rattle.semver_req.specs.Partials.{component_fits, partial_fits, sized_partial}
 use Rattle.semver_req.specs.PieceReading.{IsPieceRead, IsPieceRejection, outside, large_number, large_bound, numbers_fit}
-use Rattle.semver_req.specs.Pieces.{IsCutting, IsFilled, IsPiece, npm, normal}
+use Rattle.semver_req.specs.Pieces.{IsCutting, IsFilled, IsPiece}
 use Rattle.semver_req.specs.Written.{IsFront, comparator_of}
 use Rattle.semver_req.specs.declared.common.comparator.Written.{Written}
 use Rattle.semver_req.specs.declared.common.values.Flavour.{Flavour}
@@ -34,24 +33,18 @@ use Rattle.semver_req.specs.Sizes.{Sized, admits, is_in_grammar}
 use Rattle.semver_req.specs.Viable.{HasPiece, HasRange, IsAnyPiece, IsPart, IsPieceOrCut, alone, cut, IsViablePrefix}
 use Rattle.semver_req.specs.declared.error_places.Sizes.{Sizes}
 use Rattle.semver_req.specs.declared.error_places.Sizes.TheVariants.{Any, Fitting}
-use Rattle.semver_req.proofs.Endings.{Each, Ends, IsEnded, Starts, ended_as, ended_wider, mapped_ended}
-use Rattle.semver_req.proofs.WordEndings.{AreSizes, IsShort, nothing, digit, front_below, whitespace_front, one_digit}
-use Rattle.semver_req.proofs.PartialEndings.{InComparator, InComponent, InPartial, in_one, normal_filled_ended, one, one_partial, specifier_ended}
-use Rattle.semver_req.proofs.NpmEndings.{IsNpmEnding, short, and_sign, whitespace_digit, npm_filled_ended}
+use Rattle.semver_req.proofs.Endings.{ascii_text, filled_ended, piece_endings, range_begun, range_ended, range_endings, viable_by, whitespace_front}
+use Rattle.semver_req.proofs.GrammarTexts.{AreSizes, InComparator, InComponent, InPartial, filled_piece, front_below}
+use Rattle.semver_req.proofs.RuleTexts.{Each, EndsBy}
+use Rattle.semver_req.proofs.States.{Starts}
 use Rattle.semver_req.proofs.PiecesRead.{numbers_of}
 use Rattle.semver_req.proofs.Fitting.{comparator_all, numbers_all}
 use Rattle.semver_req.proofs.PieceReadings.{piece_one}
 
 -- ---- texts
 
-pub one_byte_text : (c : ℕ) → c < 128 → IsUtf8 (c ∷ [])
-one_byte_text c h = subst IsUtf8 (encode_ascii c h) (IsUtf8-encode c (low_scalar c (omega (arith, h))))
-
-pub bars_text : IsUtf8 (codes "||")
-bars_text = IsUtf8-append (124 ∷ []) (124 ∷ []) (one_byte_text 124 (omega arith)) (one_byte_text 124 (omega arith))
-
-pub whitespace_one_text : IsUtf8 (32 ∷ 49 ∷ [])
-whitespace_one_text = IsUtf8-append (32 ∷ []) (49 ∷ []) (one_byte_text 32 (omega arith)) (one_byte_text 49 (omega arith))
+abbrev pub one_digit : List ℕ
+one_digit = codes "1"
 
 pub starts_text : (m : List ℕ) → IsUtf8 m → Starts m
 starts_text [] u = tt
@@ -88,7 +81,7 @@ any_comparator (OfPrimitive kind p) = any_partial p
 any_comparator (Bare p) = any_partial p
 any_comparator (Hyphen p q) = (any_partial p, any_partial q)
 
-any_list : (cs : List Comparator) → AreOf Any cs
+pub any_list : (cs : List Comparator) → AreOf Any cs
 any_list [] = tt
 any_list (c ∷ cs) = (any_comparator c, any_list cs)
 
@@ -188,15 +181,6 @@ fits_admitted p m e fit = let small : m ≡ Fits p = e ∙ rw fit refl in rw sma
 
 -- ---- ranges of specifiers
 
-one_bare : IsPart Specifier one_digit (Bare one ∷ [])
-one_bare = record { value = Bare one; stands = that (record { value = one; stands = one_partial Specifier; is = refl }); is = refl }
-
-one_of : (sizes : Sizes) → AreOf sizes (Bare one ∷ [])
-one_of sizes = (in_one (sizes_are sizes), tt)
-
-range_ended : (sizes : Sizes) → IsEnded (IsPart Specifier) (AreOf sizes) IsShort
-range_ended sizes = mapped_ended (ended_as (InComparator (NumberIs sizes)) (λ c. AreOf sizes (c ∷ [])) (λ c h. h.0) (λ c h. (h, tt)) (specifier_ended (sizes_are sizes)))
-
 pub none_range : (sizes : Sizes) {text : List ℕ} → HasNone IsSpecifierRange text → IsTrue false ↔ HasRange sizes text
 none_range sizes {text} n = (λ t. cc t, λ h. let k = unsized (IsPart Specifier) h.0 sizes h.1 in absurd (n.none text [] k.0.value (sym (append-nil text)) k.0.stands))
 
@@ -235,18 +219,15 @@ pub range_viable : (sizes : Sizes) (front : List ℕ) → HasRange sizes front �
 range_viable sizes front h = record { more = []; value = h.0; is_text = IsUtf8-nil; stands = subst (λ t. Sized sizes (IsPart Specifier) t h.0) (sym (append-nil front)) h.1 }
 
 pub range_with_viable : (sizes : Sizes) (front text : List ℕ) → text ≡ front ++ one_digit → HasRange sizes text → IsViablePrefix (Sized sizes (IsPart Specifier)) front
-range_with_viable sizes front text e h = record { more = one_digit; value = h.0; is_text = one_byte_text 49 (omega arith); stands = subst (λ t. Sized sizes (IsPart Specifier) t h.0) e h.1 }
+range_with_viable sizes front text e h = record { more = one_digit; value = h.0; is_text = ascii_text one_digit refl; stands = subst (λ t. Sized sizes (IsPart Specifier) t h.0) e h.1 }
 
 pub range_with : (sizes : Sizes) (front text : List ℕ) → text ≡ front ++ one_digit → (HasRange sizes front → ⊥) → IsViablePrefix (Sized sizes (IsPart Specifier)) front → HasRange sizes text
-range_with sizes [] text e never v = (Bare one ∷ [], sized (IsPart Specifier) (Bare one ∷ []) sizes (rw e one_bare) (one_of sizes))
-range_with sizes (x ∷ p) text e never v = let k = unsized (IsPart Specifier) v.value sizes v.stands in by ((range_ended sizes).ends x p v.more v.value (starts_text v.more v.is_text) k.0 k.1)
+range_with sizes front text e never v = let k = unsized (IsPart Specifier) v.value sizes v.stands in by (range_ended (NumberIs sizes) (sizes_are sizes) front v.more (starts_text v.more v.is_text) v.value k.0 k.1)
   where
-    ending : (t : List ℕ) (cs : List Comparator) → IsShort t → IsPart Specifier ((x ∷ p) ++ t) cs → AreOf sizes cs → HasRange sizes text
-    ending t cs nothing h i = absurd (never (cs, sized (IsPart Specifier) cs sizes (rw (append-nil p) at h) i))
-    ending t cs digit h i = (cs, sized (IsPart Specifier) cs sizes (rw e h) i)
-
-    by : Ends (IsPart Specifier) (AreOf sizes) IsShort (x ∷ p) → HasRange sizes text
-    by k = ending k.ending k.value k.is_ending k.stands k.has
+    by : EndsBy (IsPart Specifier) (AreOf sizes) front range_endings → HasRange sizes text
+    by (inl h) = absurd (never (h.0, sized (IsPart Specifier) h.0 sizes (subst (λ t. IsPart Specifier t h.0) (append-nil front) h.1) h.2))
+    by (inr (inl h)) = (h.0, sized (IsPart Specifier) h.0 sizes (rw e h.1) h.2)
+    by (inr (inr h)) = absurd h
 
 -- ---- pieces
 
@@ -298,7 +279,7 @@ module _ (f : Flavour) (sizes : Sizes) (front : List ℕ) where
   begun more text cs u e h i = record { more = more; value = cs; is_text = u; stands = sized (IsPieceOrCut f) cs sizes (subst (λ t. IsPieceOrCut f t cs) e h) i }
 
   pub piece_viable : HasPiece f sizes true front → IsViablePrefix (Sized sizes (IsPieceOrCut f)) front
-  piece_viable (cs, h) = let k = unsized (IsAnyPiece f true) cs sizes h in begun (codes "||") (front ++ codes "||") cs bars_text refl (cut k.0) k.1
+  piece_viable (cs, h) = let k = unsized (IsAnyPiece f true) cs sizes h in begun (codes "||") (front ++ codes "||") cs (ascii_text (codes "||") refl) refl (cut k.0) k.1
 
   pub with_viable : (e : List ℕ) → IsUtf8 e → HasPiece f sizes false (front ++ e) → IsViablePrefix (Sized sizes (IsPieceOrCut f)) front
   with_viable e u (cs, h) = let k = unsized (IsAnyPiece f false) cs sizes h in by k.0 k.1
@@ -308,43 +289,29 @@ module _ (f : Flavour) (sizes : Sizes) (front : List ℕ) where
       by (inr h) i = let no : false ≡ true = h.0 in cc no
 
   pub bar_viable : ((p : List ℕ) × (front ≡ p ++ codes "|") × HasPiece f sizes true p) → IsViablePrefix (Sized sizes (IsPieceOrCut f)) front
-  bar_viable (p, e, (cs, h)) = let k = unsized (IsAnyPiece f true) cs sizes h in begun (codes "|") (p ++ codes "||") cs (one_byte_text 124 (omega arith)) (sym (ap (λ t. t ++ codes "|") e ∙ append_assoc p (124 ∷ []) (124 ∷ []))) (cut k.0) k.1
+  bar_viable (p, e, (cs, h)) = let k = unsized (IsAnyPiece f true) cs sizes h in begun (codes "|") (p ++ codes "||") cs (ascii_text (codes "|") refl) (sym (ap (λ t. t ++ codes "|") e ∙ append_assoc p (124 ∷ []) (124 ∷ []))) (cut k.0) k.1
 
   pub bars_viable : ((p : List ℕ) × (front ≡ p ++ codes "||") × HasPiece f sizes true p) → IsViablePrefix (Sized sizes (IsPieceOrCut f)) front
   bars_viable (p, e, (cs, h)) = let k = unsized (IsAnyPiece f true) cs sizes h in begun [] (p ++ codes "||") cs IsUtf8-nil (sym (append-nil front ∙ e)) (cut k.0) k.1
-
-no_list : {V : Type 0} {A : List ℕ → V → Type 0} {S : List ℕ → Unit {0} → Type 0} {t : List ℕ} → Listed A S t [] → ⊥
-no_list h = elim h [ ]
-
-pub filled_piece : (f : Flavour) → IsCutting f → (t : List ℕ) (cs : List Comparator) → IsFilled f t cs → IsPiece f t cs
-filled_piece f cuts t (c ∷ cs) h = h
-filled_piece Npm npm t [] (this h) = cc (h.is)
-filled_piece Npm npm t [] (that h) = absurd (no_list h)
-filled_piece Normal normal t [] h = absurd (no_list h)
-filled_piece Specifier cuts t [] h = elim cuts [ ]
-
-filled_ended : (f : Flavour) (sizes : Sizes) → IsCutting f → IsEnded (IsFilled f) (AreOf sizes) IsNpmEnding
-filled_ended Npm sizes npm = npm_filled_ended (sizes_are sizes)
-filled_ended Normal sizes normal = ended_wider IsShort IsNpmEnding (λ e h. short h) (normal_filled_ended (sizes_are sizes))
-filled_ended Specifier sizes cuts = elim cuts [ ]
 
 -- a viable prefix is none of the first five only where it is the sixth
 module _ (f : Flavour) (sizes : Sizes) (cuts : IsCutting f) (front : List ℕ) (no_piece : HasPiece f sizes true front → ⊥) (no_digit : HasPiece f sizes false (front ++ codes "1") → ⊥)
     (no_whitespace_digit : HasPiece f sizes false (front ++ codes " 1") → ⊥) (no_and : HasPiece f sizes false (front ++ codes "&") → ⊥)
     (no_bar : ((p : List ℕ) × (front ≡ p ++ codes "|") × HasPiece f sizes true p) → ⊥) where
-  no_ending : (x : ℕ) (p : List ℕ) → front ≡ x ∷ p → Ends (IsFilled f) (AreOf sizes) IsNpmEnding (x ∷ p) → ⊥
-  no_ending x p e k = by k.ending k.is_ending (filled_piece f cuts ((x ∷ p) ++ k.ending) k.value k.stands)
-    where
-      by : (t : List ℕ) → IsNpmEnding t → IsPiece f ((x ∷ p) ++ t) k.value → ⊥
-      by t (short nothing) h = no_piece (k.value, sized (IsAnyPiece f true) k.value sizes (inl (rw e (rw (append-nil p) at h))) k.has)
-      by t (short digit) h = no_digit (k.value, sized (IsAnyPiece f false) k.value sizes (inl (rw e h)) k.has)
-      by t and_sign h = no_and (k.value, sized (IsAnyPiece f false) k.value sizes (inl (rw e h)) k.has)
-      by t whitespace_digit h = no_whitespace_digit (k.value, sized (IsAnyPiece f false) k.value sizes (inl (rw e h)) k.has)
+  no_ending : EndsBy (IsFilled f) (AreOf sizes) front piece_endings → ⊥
+  no_ending (inl h) = no_piece (h.0, sized (IsAnyPiece f true) h.0 sizes (inl (subst (λ t. IsPiece f t h.0) (append-nil front) (filled_piece f cuts (front ++ []) h.0 h.1))) h.2)
+  no_ending (inr (inl h)) = no_digit (h.0, sized (IsAnyPiece f false) h.0 sizes (inl (filled_piece f cuts (front ++ codes "1") h.0 h.1)) h.2)
+  no_ending (inr (inr (inl h))) = no_and (h.0, sized (IsAnyPiece f false) h.0 sizes (inl (filled_piece f cuts (front ++ codes "&") h.0 h.1)) h.2)
+  no_ending (inr (inr (inr (inl h)))) = no_whitespace_digit (h.0, sized (IsAnyPiece f false) h.0 sizes (inl (filled_piece f cuts (front ++ codes " 1") h.0 h.1)) h.2)
+  no_ending (inr (inr (inr (inr h)))) = h
 
-  in_piece : (p more : List ℕ) (cs : List Comparator) → front ≡ p → Starts more → IsPiece f (p ++ more) cs → AreOf sizes cs → ⊥
-  in_piece [] more cs e s h i = no_piece (rw e ([], sized (IsAnyPiece f true) [] sizes (inl refl) tt))
-  in_piece (x ∷ p) more [] e s h i = cc h
-  in_piece (x ∷ p) more (c ∷ cs) e s h i = no_ending x p e ((filled_ended f sizes cuts).ends x p more (c ∷ cs) s h i)
+  empty_front : (p more : List ℕ) → p ++ more ≡ [] → p ≡ []
+  empty_front [] more h = refl
+  empty_front (x ∷ p) more h = cc h
+
+  in_piece : (more : List ℕ) (cs : List Comparator) → Starts more → IsPiece f (front ++ more) cs → AreOf sizes cs → ⊥
+  in_piece more [] s h i = no_piece ([], sized (IsAnyPiece f true) [] sizes (inl (empty_front front more h)) tt)
+  in_piece more (c ∷ cs) s h i = no_ending (filled_ended (NumberIs sizes) (sizes_are sizes) f cuts front more s (c ∷ cs) h i)
 
   before_bars : (piece more : List ℕ) (cs : List Comparator) → Starts more → piece ++ codes "||" ≡ front ++ more → IsAnyPiece f true piece cs → AreOf sizes cs → (p : List ℕ) × (front ≡ p ++ codes "||") × HasPiece f sizes true p
   before_bars piece more cs s e h i = elim (fronts front piece more (codes "||") (sym e)) [
@@ -354,7 +321,7 @@ module _ (f : Flavour) (sizes : Sizes) (cuts : IsCutting f) (front : List ℕ) (
   ]
     where
       inside : (x : ℕ) (m : List ℕ) → IsAnyPiece f true piece cs → piece ≡ front ++ (x ∷ m) → Starts ((x ∷ m) ++ codes "||") → ⊥
-      inside x m (inl k) g t = in_piece front (x ∷ m) cs refl t (rw g at k) i
+      inside x m (inl k) g t = in_piece (x ∷ m) cs t (rw g at k) i
       inside x m (inr k) g t = no_piece ([], sized (IsAnyPiece f true) [] sizes (inr (refl, whitespace_front front (x ∷ m) t (rw g at k.1), refl)) tt)
 
       behind : (x : ℕ) (m : List ℕ) → front ≡ piece ++ (x ∷ m) → codes "||" ≡ (x ∷ m) ++ more → (p : List ℕ) × (front ≡ p ++ codes "||") × HasPiece f sizes true p
@@ -366,7 +333,7 @@ module _ (f : Flavour) (sizes : Sizes) (cuts : IsCutting f) (front : List ℕ) (
   sixth v = let k = unsized (IsPieceOrCut f) v.value sizes v.stands in by (front ++ v.more) v.value k.0 k.1 refl
     where
       by : (text : List ℕ) (cs : List Comparator) → IsPieceOrCut f text cs → AreOf sizes cs → text ≡ front ++ v.more → (p : List ℕ) × (front ≡ p ++ codes "||") × HasPiece f sizes true p
-      by text cs (alone h) i e = absurd (in_piece front v.more cs refl (starts_text v.more v.is_text) (rw e at h) i)
+      by text cs (alone h) i e = absurd (in_piece v.more cs (starts_text v.more v.is_text) (rw e at h) i)
       by text cs (cut {piece} h) i e = before_bars piece v.more cs (starts_text v.more v.is_text) e h i
 
 -- ---- the empty prefix
@@ -374,6 +341,6 @@ module _ (f : Flavour) (sizes : Sizes) (cuts : IsCutting f) (front : List ℕ) (
 pub empty_part : (f : Flavour) (sizes : Sizes) → IsViablePrefix (Sized sizes (IsPart f)) []
 empty_part Npm sizes = record { more = []; value = []; is_text = IsUtf8-nil; stands = sized (IsPart Npm) [] sizes (alone refl) tt }
 empty_part Normal sizes = record { more = []; value = []; is_text = IsUtf8-nil; stands = sized (IsPart Normal) [] sizes (alone refl) tt }
-empty_part Specifier sizes = record { more = one_digit; value = Bare one ∷ []; is_text = one_byte_text 49 (omega arith); stands = sized (IsPart Specifier) (Bare one ∷ []) sizes one_bare (one_of sizes) }
+empty_part Specifier sizes = viable_by (IsPart Specifier) (AreOf sizes) (Sized sizes (IsPart Specifier)) (λ t cs h i. sized (IsPart Specifier) cs sizes h i) [] range_endings refl (range_begun (NumberIs sizes) (sizes_are sizes))
 
 -- ---- what the definition says

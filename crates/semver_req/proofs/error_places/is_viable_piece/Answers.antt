@@ -1,20 +1,21 @@
-use Rattle.std.proofs.Common.{[], ◌∷◌, arith, refl}
+use Rattle.std.proofs.Common.{codes, refl}
 use Rattle.std.proofs.lemmas.Bool.{both_ways}
 use Rattle.std.proofs.lemmas.Result.{IfOk-weaker}
-use Rattle.semver_req.proofs.ViableParts.{bar_viable, bars_viable, whitespace_one_text, one_byte_text, piece_viable, sixth, with_viable}
+use Rattle.semver_req.proofs.Endings.{ascii_text}
+use Rattle.semver_req.proofs.ViableParts.{bar_viable, bars_viable, piece_viable, sixth, with_viable}
 use Rattle.semver_req.proofs.error_places.is_viable_piece.Goals as goal
 
 pub returns-then-branch : goal.returns-then-branch
 returns-then-branch c = (λ t. piece_viable c.args.flavour c.args.sizes c.args.prefix.now (c.in_ok-is_piece.ensures.0 c.if-branch.true), λ v. refl)
 
 pub returns-then-branch-2 : goal.returns-then-branch-2
-returns-then-branch-2 c = (λ t. with_viable c.args.flavour c.args.sizes c.args.prefix.now (49 ∷ []) (one_byte_text 49 (omega arith)) (c.in_ok-is_piece_with.ensures.0 c.if-branch-2.true), λ v. refl)
+returns-then-branch-2 c = (λ t. with_viable c.args.flavour c.args.sizes c.args.prefix.now (codes "1") (ascii_text (codes "1") refl) (c.in_ok-is_piece_with.ensures.0 c.if-branch-2.true), λ v. refl)
 
 pub returns-then-branch-3 : goal.returns-then-branch-3
-returns-then-branch-3 c = (λ t. with_viable c.args.flavour c.args.sizes c.args.prefix.now (32 ∷ 49 ∷ []) whitespace_one_text (c.in_ok-is_piece_with-2.ensures.0 c.if-branch-3.true), λ v. refl)
+returns-then-branch-3 c = (λ t. with_viable c.args.flavour c.args.sizes c.args.prefix.now (codes " 1") (ascii_text (codes " 1") refl) (c.in_ok-is_piece_with-2.ensures.0 c.if-branch-3.true), λ v. refl)
 
 pub returns-then-branch-4 : goal.returns-then-branch-4
-returns-then-branch-4 c = (λ t. with_viable c.args.flavour c.args.sizes c.args.prefix.now (38 ∷ []) (one_byte_text 38 (omega arith)) (c.in_ok-is_piece_with-3.ensures.0 c.if-branch-4.true), λ v. refl)
+returns-then-branch-4 c = (λ t. with_viable c.args.flavour c.args.sizes c.args.prefix.now (codes "&") (ascii_text (codes "&") refl) (c.in_ok-is_piece_with-3.ensures.0 c.if-branch-4.true), λ v. refl)
 
 pub returns-then-branch-5 : goal.returns-then-branch-5
 returns-then-branch-5 c = (λ t. bar_viable c.args.flavour c.args.sizes c.args.prefix.now (c.in_ok-is_piece_before.ensures.0 c.if-branch-5.true), λ v. refl)
