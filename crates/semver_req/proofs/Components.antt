@@ -1,7 +1,7 @@
 -- Leading components.
-use Rattle.std.proofs.Common.{◌≡◌, ◌≤◌, ◌^◌, ℕ, Bool, true, List, [], ◌∷◌, ◌++◌, length, refl, ap, ◌∙◌, arith, inl, inr, ◌==◌, ◌||◌, nat_lt, slice_index}
+use Rattle.std.proofs.Common.{◌≡◌, ◌≤◌, ◌^◌, ℕ, true, List, [], ◌∷◌, ◌++◌, length, refl, ap, ◌∙◌, arith, inl, inr, nat_lt, slice_index}
 use Rattle.std.specs.Char.{is_ascii_digit}
-use Rattle.std.proofs.lemmas.Bool.{cases_Bool, or_left, or_right}
+use Rattle.std.proofs.lemmas.Bool.{cases_Bool}
 use Rattle.std.proofs.lemmas.Bool.Decides.{nat_tests}
 use Rattle.semver_base.specs.Grammar.{IsLongest, IsSeen}
 use Rattle.semver_base.specs.Lexical.{IsLooseNumber, IsNumber, IsNumberEnd, IsQualifier, sized}
@@ -9,12 +9,12 @@ use Rattle.semver_base.specs.declared.lexical.values.Measured.{Measured}
 use Rattle.semver_base.specs.declared.lexical.values.Qualifier.{Qualifier}
 use Rattle.semver_base.specs.declared.partial.XRange.{XRange}
 use Rattle.semver_base.specs.declared.partial.XRange.TheVariants.{Wildcard, Val}
-use Rattle.semver_base.specs.GrammarLaws.{NoClash, NonEmpty, joined, prefixed_some}
-use Rattle.semver_base.specs.ByteLaws.{BeginsBy, GoesBy}
-use Rattle.semver_base.specs.TokenLaws.{loose_begins, loose_end, loose_goes, loose_some, number_is_loose, strict_no_digit}
+use Rattle.semver_base.specs.GrammarLaws.{NoClash, joined, prefixed_some}
+use Rattle.semver_base.specs.TokenLaws.{loose_begins, loose_end, loose_some, number_is_loose, strict_no_digit}
 use Rattle.semver_req.specs.Partials.{IsComponent, IsThird, component_of, is_wildcard, sized_component, strictness_of}
 use Rattle.semver_req.specs.declared.common.values.Flavour.{Flavour}
 use Rattle.semver_req.specs.declared.common.values.Flavour.TheVariants.{Npm, Normal, Specifier}
+use Rattle.semver_req.proofs.GrammarFacts.{component_goes}
 
 pub is_loose : (f : Flavour) (a : List ℕ) (n : ℕ) → IsNumber (strictness_of f) a n → IsLooseNumber a n
 is_loose f a n h = number_is_loose (strictness_of f) a n h
@@ -57,23 +57,6 @@ module _ (f : Flavour) (text : List ℕ) (other : (b : ℕ) (r : List ℕ) → i
 
 -- ---- the bytes with which components begin and continue
 
-pub component_goes : (f : Flavour) → GoesBy (IsComponent f) is_ascii_digit
-component_goes f = record { goes = λ x o. go x o.front o.more o.short_value o.long_value o.short o.long }
-  where
-    go : (x : ℕ) (a m : List ℕ) (v u : XRange) → IsComponent f a v → IsComponent f (a ++ (x ∷ m)) u → is_ascii_digit x ≡ true
-    go x [] m Wildcard u h k = cc h.1.text_is
-    go x [] m (Val n) u h k = absurd (loose_some.some n (is_loose f [] n h))
-    go x (y ∷ a) m v Wildcard h k = absurd (too_long a k.1.text_is)
-      where
-        too_long : (a : List ℕ) → y ∷ (a ++ (x ∷ m)) ≡ k.0 ∷ [] → ⊥
-        too_long [] e = cc e
-        too_long (z ∷ a) e = cc e
-    go x (y ∷ a) m Wildcard (Val n) h k =
-        let byte : y ≡ h.0 = cc h.1.text_is in
-        let digit = loose_begins.begins y (record { more = a ++ (x ∷ m); value = n; stands = is_loose f (y ∷ (a ++ (x ∷ m))) n k }) in
-        absurd (wildcard_no_digit f h.0 h.1.passes (rw byte at digit))
-    go x (y ∷ a) m (Val l) (Val n) h k = loose_goes.goes x (record { front = y ∷ a; more = m; short_value = l; long_value = n; short = is_loose f (y ∷ a) l h; long = is_loose f (y ∷ (a ++ (x ∷ m))) n k })
-
 -- what continues is a number
 component_goes_first : (f : Flavour) (x : ℕ) (a m : List ℕ) (v u : XRange) → IsComponent f a v → IsComponent f (a ++ (x ∷ m)) u → is_ascii_digit (slice_index a 0) ≡ true
 component_goes_first f x [] m Wildcard u h k = cc h.1.text_is
@@ -85,29 +68,6 @@ component_goes_first f x (y ∷ a) m Wildcard Wildcard h k = absurd (too_long a 
     too_long (z ∷ a) e = cc e
 component_goes_first f x (y ∷ a) m Wildcard (Val n) h k = loose_begins.begins y (record { more = a ++ (x ∷ m); value = n; stands = is_loose f (y ∷ (a ++ (x ∷ m))) n k })
 component_goes_first f x (y ∷ a) m (Val l) u h k = loose_begins.begins y (record { more = a; value = l; stands = is_loose f (y ∷ a) l h })
-
-pub component_some : (f : Flavour) → NonEmpty (IsComponent f)
-component_some f = record { some = go }
-  where
-    go : (v : XRange) → IsComponent f [] v → ⊥
-    go Wildcard h = cc h.1.text_is
-    go (Val n) h = loose_some.some n (is_loose f [] n h)
-
--- what begins a component: a digit or a wildcard
-abbrev pub is_component_byte : ℕ → Bool
-is_component_byte x = is_ascii_digit x || ((x == 42) || (x == 120) || (x == 88))
-
-pub wildcard_wider : (f : Flavour) (x : ℕ) → is_wildcard f x ≡ true → is_component_byte x ≡ true
-wildcard_wider Npm x h = or_right (is_ascii_digit x) ((x == 42) || (x == 120) || (x == 88)) h
-wildcard_wider Normal x h = or_right (is_ascii_digit x) ((x == 42) || (x == 120) || (x == 88)) (or_left ((x == 42) || (x == 120)) (x == 88) (or_left (x == 42) (x == 120) h))
-wildcard_wider Specifier x h = or_right (is_ascii_digit x) ((x == 42) || (x == 120) || (x == 88)) h
-
-pub component_begins : (f : Flavour) → BeginsBy (IsComponent f) is_component_byte
-component_begins f = record { begins = λ x o. go x o.more o.value o.stands }
-  where
-    go : (x : ℕ) (more : List ℕ) (v : XRange) → IsComponent f (x ∷ more) v → is_component_byte x ≡ true
-    go x more Wildcard h = let same_byte : x ≡ h.0 = cc h.1.text_is in wildcard_wider f x (rw same_byte h.1.passes)
-    go x more (Val n) h = or_left (is_ascii_digit x) ((x == 42) || (x == 120) || (x == 88)) (loose_begins.begins x (record { more = more; value = n; stands = is_loose f (x ∷ more) n h }))
 
 -- ---- a component and a qualifier
 

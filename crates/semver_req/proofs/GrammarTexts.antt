@@ -153,7 +153,7 @@ each_any : {V : Type 0} (vs : List V) → Each Any vs
 each_any [] = tt
 each_any (v ∷ vs) = (tt, each_any vs)
 
-if_any : {V : Type 0} (v : Option V) → IfAny Any v
+pub if_any : {V : Type 0} (v : Option V) → IfAny Any v
 if_any None = tt
 if_any (Some v) = tt
 
@@ -200,7 +200,7 @@ module _ {T : List ℕ → Type 0} where
   qualifier_described : (s : Strictness) → Describes T (IsQualifier s) Any (rule.qualifier s)
   qualifier_described s = mapped_described (described_as (λ v h. (if_any v.0, if_any v.1)) (λ v h. tt) (followed_described (optional_described (pre_described s)) (optional_described build_described)))
 
-  kind_described : Describes T IsPrimitiveKind Any rule.kind
+  pub kind_described : Describes T IsPrimitiveKind Any rule.kind
   kind_described = ground_described rule.kind refl go back
     where
       go : (t : List ℕ) (v : PrimitiveKind) → IsPrimitiveKind t v → Holds rule.kind t
@@ -229,7 +229,7 @@ module _ {T : List ℕ → Type 0} where
       back t (inl h) = two t h.0 h.1 h.2 h.3 h.4
       back t (inr h) = (Equal, h.1 ∙ ap (λ x. x ∷ []) (one_is 61 h.0 h.2))
 
-  equals_described : Describes T IsEquals Any (many (letter 61))
+  pub equals_described : Describes T IsEquals Any (many (letter 61))
   equals_described = ground_described (many (letter 61)) refl (λ t v h. go h) (λ t h. (tt, back h))
     where
       go : {t : List ℕ} {v : Unit {0}} → IsEquals t v → Many (Holds (letter 61)) t
@@ -240,23 +240,23 @@ module _ {T : List ℕ → Type 0} where
       back (no_more e) = rw e no_more_equals
       back (one_more a b e h k) = let whole = e ∙ (ap (λ l. l ++ b) h.1 ∙ ap (λ x. x ∷ b) (one_is 61 h.0 h.2)) in rw whole (one_more_equals (back k))
 
-  ignored_described : Describes T IsIgnored Any rule.ignored
+  pub ignored_described : Describes T IsIgnored Any rule.ignored
   ignored_described = described_as of (λ v h. tt) (optional_described (followed_described kind_described some_whitespace_described))
     where
       of : (v : Option (PrimitiveKind × Unit {0})) → Any v → IfAny (Both Any Any) v
       of None h = tt
       of (Some v) h = (tt, tt)
 
-  v_described : Describes T (Optional (IsByte 118)) Any (optional (letter 118))
+  pub v_described : Describes T (Optional (IsByte 118)) Any (optional (letter 118))
   v_described = described_as (λ v h. if_any v) (λ v h. tt) (optional_described (letter_described 118 refl))
 
-  tildes_described : Describes T IsTildes Any rule.tildes
+  pub tildes_described : Describes T IsTildes Any rule.tildes
   tildes_described = either_described (word_described (codes "~>") refl) (word_described (codes "~") refl)
 
-  list_operator_described : Describes T IsListOperator Any rule.list_operator
+  pub list_operator_described : Describes T IsListOperator Any rule.list_operator
   list_operator_described = either_described (word_described (codes "&&") refl) (word_described (codes ",") refl)
 
-  separator_described : Describes T IsNpmSeparator Any (rule.separator Npm)
+  pub separator_described : Describes T IsNpmSeparator Any (rule.separator Npm)
   separator_described = either_described (after_described whitespace_described (after_described list_operator_described whitespace_described)) some_whitespace_described
 
 -- a number ends where no digit follows
@@ -320,7 +320,7 @@ module _ (N : ℕ → Type 0) where
 
   -- ---- partial versions
 
-  component_described : (f : Flavour) → Describes (Numbers f) (IsComponent f) (InComponent N) (rule.component f)
+  pub component_described : (f : Flavour) → Describes (Numbers f) (IsComponent f) (InComponent N) (rule.component f)
   component_described f = record { into = go; from = λ t h. back t (alt_says (byte (rule.wildcards f)) rule.number t h) }
     where
       wildcard : Describes (Numbers f) (OneByte (is_wildcard f)) Any (byte (rule.wildcards f))
@@ -382,49 +382,49 @@ module _ (N : ℕ → Type 0) where
     in_bare (m, Some (n, None)) h = (h.0, (h.1.0, tt))
     in_bare (m, Some (n, Some (p, q))) h = (h.0, (h.1.0, h.1.1.0))
 
-    bare_partial_described : Describes (Numbers f) (IsBarePartial f) (InPartial N) (rule.bare_partial f)
+    pub bare_partial_described : Describes (Numbers f) (IsBarePartial f) (InPartial N) (rule.bare_partial f)
     bare_partial_described = mapped_described (described_as bare_in in_bare (followed_described (component_described f) (optional_described (prefixed_described 46 (omega arith) (followed_described (component_described f) (optional_described (prefixed_described 46 (omega arith) patch_described)))))))
 
-  partial_described : (f : Flavour) → Describes (Numbers f) (IsPartial f) (InPartial N) (rule.partial f)
+  pub partial_described : (f : Flavour) → Describes (Numbers f) (IsPartial f) (InPartial N) (rule.partial f)
   partial_described Npm = either_described (prefixed_described 118 (omega arith) (bare_partial_described Npm)) (bare_partial_described Npm)
   partial_described Normal = bare_partial_described Normal
   partial_described Specifier = bare_partial_described Specifier
 
   -- ---- comparators
 
-  led_described : Describes (Numbers Npm) IsLed (InPartial N) rule.led
+  pub led_described : Describes (Numbers Npm) IsLed (InPartial N) rule.led
   led_described = after_described equals_described (after_described whitespace_described (after_described v_described (after_described whitespace_described (partial_described Npm))))
 
-  tilde_described : (f : Flavour) → Describes (Numbers f) (IsTildeOf f) (InComparator N) (rule.tilde f)
+  pub tilde_described : (f : Flavour) → Describes (Numbers f) (IsTildeOf f) (InComparator N) (rule.tilde f)
   tilde_described Npm = mapped_described (after_described ignored_described (after_described tildes_described led_described))
   tilde_described Normal = mapped_described (prefixed_described 126 (omega arith) (partial_described Normal))
   tilde_described Specifier = mapped_described (prefixed_described 126 (omega arith) (partial_described Specifier))
 
-  caret_described : (f : Flavour) → Describes (Numbers f) (IsCaretOf f) (InComparator N) (rule.caret f)
+  pub caret_described : (f : Flavour) → Describes (Numbers f) (IsCaretOf f) (InComparator N) (rule.caret f)
   caret_described Npm = mapped_described (after_described ignored_described (prefixed_described 94 (omega arith) led_described))
   caret_described Normal = mapped_described (prefixed_described 94 (omega arith) (partial_described Normal))
   caret_described Specifier = mapped_described (prefixed_described 94 (omega arith) (partial_described Specifier))
 
-  operators_described : (f : Flavour) → Describes (Numbers f) (Either (IsTildeOf f) (IsCaretOf f)) (InComparator N) (alt (rule.tilde f) (rule.caret f))
+  pub operators_described : (f : Flavour) → Describes (Numbers f) (Either (IsTildeOf f) (IsCaretOf f)) (InComparator N) (alt (rule.tilde f) (rule.caret f))
   operators_described f = either_described (tilde_described f) (caret_described f)
 
-  primitive_described : (f : Flavour) → Describes (Numbers f) (IsOfPrimitive f) (InComparator N) (rule.primitive f)
+  pub primitive_described : (f : Flavour) → Describes (Numbers f) (IsOfPrimitive f) (InComparator N) (rule.primitive f)
   primitive_described f = mapped_described (described_as (λ v h. (tt, h)) (λ v h. h.1) (followed_described kind_described (after_described whitespace_described (partial_described f))))
 
-  bare_described : (f : Flavour) → Describes (Numbers f) (IsBare f) (InComparator N) (rule.partial f)
+  pub bare_described : (f : Flavour) → Describes (Numbers f) (IsBare f) (InComparator N) (rule.partial f)
   bare_described f = mapped_described (partial_described f)
 
-  comparator_described : (f : Flavour) → Describes (Numbers f) (IsComparator f) (InComparator N) (rule.comparator f)
+  pub comparator_described : (f : Flavour) → Describes (Numbers f) (IsComparator f) (InComparator N) (rule.comparator f)
   comparator_described Npm = either_described (operators_described Npm) (either_described (primitive_described Npm) (bare_described Npm))
   comparator_described Normal = either_described (operators_described Normal) (either_described (primitive_described Normal) (bare_described Normal))
   comparator_described Specifier = either_described (operators_described Specifier) (bare_described Specifier)
 
   -- ---- alternatives
 
-  hyphened_described : Describes (Numbers Npm) IsHyphened (InPartial N) rule.hyphened
+  pub hyphened_described : Describes (Numbers Npm) IsHyphened (InPartial N) rule.hyphened
   hyphened_described = after_described some_whitespace_described (prefixed_described 45 (omega arith) (after_described some_whitespace_described (before_described (partial_described Npm) whitespace_described)))
 
-  hyphen_described : Describes (Numbers Npm) IsHyphen (Each (InComparator N)) rule.hyphen
+  pub hyphen_described : Describes (Numbers Npm) IsHyphen (Each (InComparator N)) rule.hyphen
   hyphen_described = mapped_described (described_as (λ v h. h.0) (λ v h. (h, tt)) (followed_described (partial_described Npm) hyphened_described))
 
   pub filled_described : (f : Flavour) → IsCutting f → Describes (Numbers f) (IsFilled f) (Each (InComparator N)) (rule.filled f)

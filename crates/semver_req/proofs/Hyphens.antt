@@ -10,7 +10,7 @@ use Rattle.semver_req.specs.Partials.{IsPartial, sized_partial}
 use Rattle.semver_req.specs.PieceSteps.{sized_hyphen}
 use Rattle.semver_req.specs.Pieces.{IsHyphen, IsHyphened, IsHyphenPair, IsUpper}
 use Rattle.semver_req.specs.declared.common.values.Flavour.TheVariants.{Npm}
-use Rattle.semver_req.proofs.PieceReadings.{whitespace_hyphen, whitespace_upper, partial_whitespace, partial_hyphened}
+use Rattle.semver_req.proofs.GrammarFacts.{whitespace_hyphen, whitespace_upper, partial_whitespace, partial_hyphened}
 use Rattle.semver_req.proofs.PiecesRead.{more_follows, none_whole}
 
 -- ---- at the start of a text

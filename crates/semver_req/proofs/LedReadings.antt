@@ -1,23 +1,25 @@
 -- What leads the partial version of npm's tildes and carets, as a rule that parses from left to right.
-use Rattle.std.proofs.Common.{◌≡◌, ℕ, Bool, true, List, [], ◌∷◌, ◌++◌, Option, Some, None, refl, sym, ap, ◌∙◌, arith, append_assoc, ◌==◌, ◌||◌}
+use Rattle.std.proofs.Common.{◌≡◌, ℕ, List, [], ◌∷◌, ◌++◌, Option, Some, None, refl, sym, ap, ◌∙◌, arith, append_assoc}
 use Rattle.std.specs.Char.{is_not_whitespace}
-use Rattle.std.proofs.lemmas.Bool.{or_left, or_right}
-use Rattle.std.proofs.lemmas.Bool.Decides.{nat_tests}
 use Rattle.std.proofs.lemmas.Str.{NoCharPasses-append, NoCharPasses-nil}
 use Rattle.semver_base.specs.Grammar.{After, Either, this, that, HasNone, IsLongest, Prefixed, Optional, ReadsAs}
 use Rattle.semver_base.specs.Lexical.{IsWhitespace, IsByte}
 use Rattle.semver_base.specs.declared.partial.Partial.{Partial}
-use Rattle.semver_base.specs.WhitespaceLaws.{whitespace_made, is_whitespace_byte}
-use Rattle.semver_base.specs.ByteLaws.{BeginsBy, Disjoint, apart_by, begins_from_made, begins_wider, either_begins, goes_from_made, joined_begins_either, mapped_begins, prefixed_begins, none_by_byte}
+use Rattle.semver_base.specs.ByteLaws.{none_by_byte}
 use Rattle.semver_base.specs.GrammarLaws.{Apart, either_none, either_that, either_this, followed, followed_none_second, mapped, mapped_none, prefixed_none, prefixed_other, prefixed_some, narrowed, narrowed_none}
 use Rattle.semver_base.specs.ValueLaws.{after_maps, after_of, after_parts}
-use Rattle.semver_req.specs.Comparators.{IsEquals, one_more, IsLed}
+use Rattle.semver_req.specs.Comparators.{IsEquals, IsLed}
 use Rattle.semver_req.specs.Partials.{IsPartial, IsBarePartial}
 use Rattle.semver_req.specs.declared.common.values.Flavour.TheVariants.{Npm}
-use Rattle.semver_req.proofs.ComparatorReadings.{equals_made, is_primitive_kind_byte}
-use Rattle.semver_req.proofs.Components.{is_component_byte}
-use Rattle.semver_req.proofs.Partials.{no_v, partial_begins, partial_some}
-use Rattle.semver_req.proofs.PrimitiveKinds.{whitespace_apart}
+use Rattle.semver_req.proofs.GrammarFacts.{Free, equals_under, free_partial, partial_begins, partial_some, whitespace_apart, whitespace_under}
+use Rattle.semver_req.proofs.GrammarTexts.{InPartial, Numbers, bare_partial_described, loose_digits, partial_described}
+use Rattle.semver_req.proofs.Grammars as rule
+use Rattle.semver_req.proofs.RuleFacts.{apart_from, under}
+use Rattle.semver_req.proofs.RuleTexts.{Describes, after_described, either_described, prefixed_described}
+use Rattle.semver_req.proofs.Rules.{Rule, alt, letter, seq}
+use Rattle.semver_req.proofs.WhitespaceTexts.{whitespace_described}
+use Rattle.semver_base.specs.declared.lexical.values.Strictness.TheVariants.{Loose}
+use Rattle.semver_req.proofs.Partials.{no_v}
 
 -- after the whitespace: a `v`, optional whitespace and a partial version, which may have its own `v`, or a plain one
 abbrev pub IsAfterWhitespace : List ℕ → Partial → Type 0
@@ -77,49 +79,17 @@ led_none h = narrowed_none IsLed led_to h
 
 -- ---- how it is parsed: any number of `=`, optional whitespace, and then by whether a `v` follows
 
-abbrev is_after_byte : ℕ → Bool
-is_after_byte x = (x == 118) || is_component_byte x
+abbrev after_rule : Rule
+after_rule = alt (seq (letter 118) (seq rule.whitespace (rule.partial Npm))) (rule.bare_partial Npm)
 
-after_begins : BeginsBy IsAfterWhitespace is_after_byte
-after_begins = either_begins
-    (begins_wider (λ x. x == 118) is_after_byte (λ x h. or_left (x == 118) (is_component_byte x) h) (prefixed_begins 118))
-    (begins_wider is_component_byte is_after_byte (λ x h. or_right (x == 118) (is_component_byte x) h) (partial_begins Npm))
-
-whitespace_no_after : Disjoint is_whitespace_byte is_after_byte
-whitespace_no_after x h k = grind (arith, nat_tests)
+after_rule_described : Describes (Numbers Free Npm) IsAfterWhitespace (InPartial Free) after_rule
+after_rule_described = either_described (prefixed_described 118 (omega arith) (after_described whitespace_described (partial_described Free Npm))) (bare_partial_described Free Npm)
 
 whitespace_after : Apart IsWhitespace IsAfterWhitespace
-whitespace_after = apart_by is_whitespace_byte is_after_byte whitespace_no_after (goes_from_made whitespace_made) after_begins
-
-abbrev is_led_byte : ℕ → Bool
-is_led_byte x = is_whitespace_byte x || is_after_byte x
-
-primitive_kind_no_led : Disjoint is_primitive_kind_byte is_led_byte
-primitive_kind_no_led x h k = grind (arith, nat_tests)
-
-whitespace_led : BeginsBy (After IsWhitespace IsAfterWhitespace) is_led_byte
-whitespace_led = mapped_begins (joined_begins_either
-    (begins_wider is_whitespace_byte is_led_byte (λ x h. or_left (is_whitespace_byte x) (is_after_byte x) h) (begins_from_made whitespace_made))
-    (begins_wider is_after_byte is_led_byte (λ x h. or_right (is_whitespace_byte x) (is_after_byte x) h) after_begins))
+whitespace_after = apart_from whitespace_under (under (loose_digits Loose) after_rule_described free_partial) refl
 
 equals_led : Apart IsEquals (After IsWhitespace IsAfterWhitespace)
-equals_led = apart_by is_primitive_kind_byte is_led_byte primitive_kind_no_led (goes_from_made equals_made) whitespace_led
-
--- the byte with which all of it begins
-abbrev pub is_ordered_byte : ℕ → Bool
-is_ordered_byte x = (x == 61) || is_led_byte x
-
-equals_begin : BeginsBy IsEquals is_ordered_byte
-equals_begin = record { begins = λ x b. go x b.more b.value b.stands }
-  where
-    go : (x : ℕ) (more : List ℕ) (v : Unit {0}) → IsEquals (x ∷ more) v → is_ordered_byte x ≡ true
-    go x more v (one_more h) = refl
-
-ordered_begins : BeginsBy IsOrderedLed is_ordered_byte
-ordered_begins = mapped_begins (joined_begins_either equals_begin (begins_wider is_led_byte is_ordered_byte (λ x h. or_right (x == 61) (is_led_byte x) h) whitespace_led))
-
-pub led_begins : BeginsBy IsLed is_ordered_byte
-led_begins = record { begins = λ x b. ordered_begins.begins x (record { more = b.more; value = b.value; stands = led_to (x ∷ b.more) b.value b.stands }) }
+equals_led = apart_from equals_under (under (loose_digits Loose) (after_described whitespace_described after_rule_described) free_partial) refl
 
 module _ {X : Type 0} (see : Partial → X) where
   -- a `v`, and the partial version after its whitespace

@@ -58,6 +58,8 @@ pub mod RuleTexts
 pub mod Grammars
 pub mod WhitespaceTexts
 pub mod GrammarTexts
+pub mod RuleFacts
+pub mod GrammarFacts
 pub mod Endings
 pub mod ViableParts
 pub mod Alternatives

@@ -1,17 +1,15 @@
 -- npm's leading comparators: an ignored operator, an operator, and what leads the partial version.
-use Rattle.std.proofs.Common.{◌≡◌, ◌≤◌, ℕ, true, List, [], ◌∷◌, ◌++◌, length, get_or, Option, Some, None, refl, sym, ap, ◌∙◌, arith, length-append, ◌==◌, Bor, codes, unwrap_or, eq-eqb}
+use Rattle.std.proofs.Common.{◌≡◌, ◌≤◌, ℕ, List, [], ◌∷◌, ◌++◌, length, get_or, Option, Some, None, refl, sym, ap, ◌∙◌, arith, Bor, codes, unwrap_or}
 use Rattle.std.specs.Char.{is_not_whitespace}
-use Rattle.std.proofs.lemmas.Bool.Decides.{nat_tests}
 use Rattle.std.proofs.lemmas.Str.{NoCharPasses-nil}
 use Rattle.semver_base.specs.Comparators.{Comparator, Tilde, Caret}
-use Rattle.semver_base.specs.Grammar.{After, Either, this, that, HasNone, IsAfter, IsLongest, Prefixed, ReadsAs}
+use Rattle.semver_base.specs.Grammar.{Either, this, that, HasNone, IsAfter, IsLongest, ReadsAs}
 use Rattle.semver_base.specs.Lexical.{IsWhitespace, IsSomeWhitespace}
 use Rattle.semver_base.specs.declared.lexical.values.Measured.{Measured}
 use Rattle.semver_base.specs.declared.partial.Partial.{Partial}
 use Rattle.semver_base.specs.declared.partial.PrimitiveKind.{PrimitiveKind}
-use Rattle.semver_base.specs.WhitespaceLaws.{is_whitespace_byte}
-use Rattle.semver_base.specs.ByteLaws.{BeginsBy, Disjoint, GoesBy, apart_by, begins_from_made, goes_from_made, joined_begins, joined_some_text, mapped_begins, prefixed_begins}
-use Rattle.semver_base.specs.GrammarLaws.{Apart, either_longer, either_none, either_that, either_this, followed, followed_none_second, joined_none_first, mapped, mapped_none, prefixed_none, prefixed_other, prefixed_some, optional_none, optional_some}
+use Rattle.semver_base.specs.ByteLaws.{joined_some_text}
+use Rattle.semver_base.specs.GrammarLaws.{either_longer, either_none, either_that, either_this, followed, followed_none_second, joined_none_first, mapped, mapped_none, prefixed_none, prefixed_other, prefixed_some, optional_none, optional_some}
 use Rattle.semver_req.specs.Comparators.{IsComparator, IsEquals, IsIgnored, IsLed, IsNpmCaret, IsNpmTilde, IsOfPrimitive, IsBare, IsPrimitiveKind, no_more, one_more}
 use Rattle.semver_req.specs.Partials.{IsPartial, sized_partial}
 use Rattle.semver_req.specs.Written.{IsNpmFront, IsNpmOperatorCut, IsTildes, ReadsByOperator, ReadsComparator, ReadsOperatorForm, comparator_of, with_operator}
@@ -19,11 +17,10 @@ use Rattle.semver_req.specs.declared.common.comparator.Operator.{Operator}
 use Rattle.semver_req.specs.declared.common.comparator.Operator.TheVariants as operator
 use Rattle.semver_req.specs.declared.common.comparator.Written.{Written}
 use Rattle.semver_req.specs.declared.common.values.Flavour.TheVariants.{Npm}
-use Rattle.semver_req.proofs.ComparatorReadings.{ignored_word, is_word_byte, primitive_kind_some, some_whitespace_made, tildes_some}
-use Rattle.semver_req.proofs.LedReadings.{is_ordered_byte, led_begins}
+use Rattle.semver_req.proofs.GrammarFacts.{ignored_caret, ignored_tildes, primitive_kind_apart, primitive_kind_some, primitive_kind_whitespace, tildes_led, whitespace_apart}
 use Rattle.semver_req.proofs.Operators.{after_caret, after_tilde, caret_no_primitive_kind, no_bare, primitive_byte, tilde_no_primitive_kind}
 use Rattle.semver_req.proofs.Separators.{text_longest, text_none}
-use Rattle.semver_req.proofs.PrimitiveKinds.{whitespace_apart, primitive_kind_apart, primitive_kind_goes, primitive_none}
+use Rattle.semver_req.proofs.PrimitiveKinds.{primitive_none}
 
 -- ---- any number of `=`
 
@@ -64,22 +61,6 @@ tilde_front middle answer e (Some more) f is = rw is (tilde_greater e f)
 tildes_none : {text : List ℕ} → ((rest : List ℕ) → text ≡ 126 ∷ rest → ⊥) → HasNone IsTildes text
 tildes_none {text} other = either_none (text_none (codes "~>") text (λ r e. other (62 ∷ r) e)) (text_none (codes "~") text (λ r e. other r e))
 
-tildes_begin : BeginsBy IsTildes (λ x. x == 126)
-tildes_begin = record { begins = λ x b. go x b.more b.value b.stands }
-  where
-    go : (x : ℕ) (more : List ℕ) (v : Unit {0}) → IsTildes (x ∷ more) v → (x == 126) ≡ true
-    go x more v (this h) = eq-eqb x 126 (cc h)
-    go x more v (that h) = eq-eqb x 126 (cc h)
-
-tildes_go : GoesBy IsTildes (λ x. x == 62)
-tildes_go = record { goes = λ x g. go x g.front g.more g.short_value g.long_value g.short g.long }
-  where
-    go : (x : ℕ) (a more : List ℕ) (v u : Unit {0}) → IsTildes a v → IsTildes (a ++ (x ∷ more)) u → (x == 62) ≡ true
-    go x a more v u (this h) (this k) = absurd (omega (arith, ap length k, ap length h, length-append a (x ∷ more)))
-    go x a more v u (this h) (that k) = absurd (omega (arith, ap length k, ap length h, length-append a (x ∷ more)))
-    go x a more v u (that h) (this k) = eq-eqb x 62 (ap (λ t. get_or t 1 0) (ap (λ t. t ++ (x ∷ more)) (sym h) ∙ k))
-    go x a more v u (that h) (that k) = absurd (omega (arith, ap length k, ap length h, length-append a (x ∷ more)))
-
 -- the text begins with a `~`
 tildes_byte : {text rest : List ℕ} → IsLongest IsTildes text tt rest → (more : List ℕ) × (text ≡ 126 ∷ more)
 tildes_byte {text} {rest} p = go p.stands
@@ -89,30 +70,6 @@ tildes_byte {text} {rest} p = go p.stands
     go (that h) = (rest, p.text_is ∙ ap (λ t. t ++ rest) h)
 
 -- ---- an ignored operator, and an operator
-
-equal_no_whitespace : Disjoint (λ x. x == 61) is_whitespace_byte
-equal_no_whitespace x h k = grind (arith, nat_tests)
-
-primitive_kind_whitespace : Apart IsPrimitiveKind IsSomeWhitespace
-primitive_kind_whitespace = apart_by (λ x. x == 61) is_whitespace_byte equal_no_whitespace primitive_kind_goes (begins_from_made some_whitespace_made)
-
-greater_no_led : Disjoint (λ x. x == 62) is_ordered_byte
-greater_no_led x h k = grind (arith, nat_tests)
-
-tildes_led : Apart IsTildes IsLed
-tildes_led = apart_by (λ x. x == 62) is_ordered_byte greater_no_led tildes_go led_begins
-
-word_no_tilde : Disjoint is_word_byte (λ x. x == 126)
-word_no_tilde x h k = grind (arith, nat_tests)
-
-word_no_caret : Disjoint is_word_byte (λ x. x == 94)
-word_no_caret x h k = grind (arith, nat_tests)
-
-ignored_tildes : Apart IsIgnored (After IsTildes IsLed)
-ignored_tildes = apart_by is_word_byte (λ x. x == 126) word_no_tilde (goes_from_made ignored_word) (mapped_begins (joined_begins tildes_some tildes_begin))
-
-ignored_caret : Apart IsIgnored (Prefixed 94 IsLed)
-ignored_caret = apart_by is_word_byte (λ x. x == 94) word_no_caret (goes_from_made ignored_word) (prefixed_begins 94)
 
 module _ {text start : List ℕ} {o : Option (PrimitiveKind × Unit {0})} (i : IsLongest IsIgnored text o start) where
   tilde_some : {middle rest : List ℕ} {p : Partial} → IsLongest IsTildes start tt middle → IsLongest IsLed middle p rest → IsLongest IsNpmTilde text (Tilde p) rest

@@ -31,7 +31,8 @@ use Rattle.semver_req.specs.declared.error_places.pieces.InvalidPiece.{InvalidPi
 use Rattle.semver_req.specs.declared.error_places.pieces.Parsed.{Parsed}
 use Rattle.semver_req.specs.declared.error_places.pieces.Parsed.TheVariants.{Range, Invalid}
 use Rattle.semver_req.specs.declared.range_set_or_tag.pieces.RangeOrInvalid.TheVariants as read
-use Rattle.semver_req.proofs.ComparatorReadings.{comparator_goes, comparator_one}
+use Rattle.semver_req.proofs.ComparatorReadings.{comparator_one}
+use Rattle.semver_req.proofs.GrammarFacts.{comparator_goes}
 use Rattle.semver_req.proofs.OneOutcome.{cut_one, cut_some, fits_or_not, no_cut, none_some, some_or_none, trimmed_one, whole_or_not}
 use Rattle.semver_req.proofs.OneReason.{bound_no_fit, front_fits, number_no_fit, piece_reason, read_one}
 use Rattle.semver_req.proofs.PieceReadings.{hyphen_no_second}

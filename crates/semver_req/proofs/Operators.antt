@@ -7,8 +7,7 @@ use Rattle.semver_base.specs.declared.lexical.values.Measured.{Measured}
 use Rattle.semver_base.specs.declared.partial.Partial.{Partial}
 use Rattle.semver_base.specs.declared.partial.PrimitiveKind.{PrimitiveKind}
 use Rattle.semver_base.specs.ByteLaws.{Disjoint, none_by_byte}
-use Rattle.semver_base.specs.GrammarLaws.{NonEmpty, either_none, either_that, either_this, followed, joined_none_first, mapped, mapped_none, prefixed_none, prefixed_other, prefixed_some}
-use Rattle.semver_base.specs.ValueLaws.{some_within}
+use Rattle.semver_base.specs.GrammarLaws.{either_none, either_that, either_this, followed, joined_none_first, mapped, mapped_none, prefixed_none, prefixed_other, prefixed_some}
 use Rattle.semver_req.specs.Comparators.{IsComparator, HasOperator, IsBare, IsPrimitiveKind}
 use Rattle.semver_req.specs.Partials.{IsPartial, sized_partial}
 use Rattle.semver_req.specs.Written.{IsFront, IsOperatorCut, IsNonPrimitive, ReadsComparator, with_operator}
@@ -17,11 +16,8 @@ use Rattle.semver_req.specs.declared.common.comparator.Operator.TheVariants as o
 use Rattle.semver_req.specs.declared.common.comparator.Written.{Written}
 use Rattle.semver_req.specs.declared.common.values.Flavour.{Flavour}
 use Rattle.semver_req.specs.declared.common.values.Flavour.TheVariants.{Normal}
-use Rattle.semver_req.proofs.ComparatorReadings.{core_some, is_primitive_kind_byte, partial_within, primitive_kind_begins, primitive_kind_some}
-use Rattle.semver_req.proofs.PrimitiveKinds.{any_begins, whitespace_apart, is_partial_byte, primitive_kind_apart, primitive_none}
-
-partial_some : (f : Flavour) → NonEmpty (IsPartial f)
-partial_some f = some_within (partial_within f) (core_some f)
+use Rattle.semver_req.proofs.GrammarFacts.{any_begins, is_partial_byte, is_primitive_kind_byte, any_some, primitive_kind_apart, primitive_kind_begins, primitive_kind_some, whitespace_apart}
+use Rattle.semver_req.proofs.PrimitiveKinds.{primitive_none}
 
 -- ---- `~`, `^` or nothing
 
@@ -35,10 +31,10 @@ caret_no_partial : (x : ℕ) → x ≡ 94 → is_partial_byte x ≡ true → ⊥
 caret_no_partial x e h = grind (arith, nat_tests)
 
 pub after_tilde : (f : Flavour) {text rest : List ℕ} → text ≡ 126 ∷ rest → HasNone (IsPartial f) text
-after_tilde f {text} e = none_by_byte (partial_some f) (any_begins f) text (λ x t g k. tilde_no_partial x (cc) k)
+after_tilde f {text} e = none_by_byte (any_some f) (any_begins f) text (λ x t g k. tilde_no_partial x (cc) k)
 
 pub after_caret : (f : Flavour) {text rest : List ℕ} → text ≡ 94 ∷ rest → HasNone (IsPartial f) text
-after_caret f {text} e = none_by_byte (partial_some f) (any_begins f) text (λ x t g k. caret_no_partial x (cc) k)
+after_caret f {text} e = none_by_byte (any_some f) (any_begins f) text (λ x t g k. caret_no_partial x (cc) k)
 
 pub non_primitive_some : (f : Flavour) (m : Operator) {text rest end : List ℕ} {answer : Measured Partial} → IsOperatorCut text m rest → IsSeen sized_partial (IsPartial f) rest answer end
     → IsFront (IsNonPrimitive f) text (record { operator = m; partial = answer }) end
@@ -115,7 +111,7 @@ module _ {text middle : List ℕ} {kind : PrimitiveKind} (s : IsLongest IsPrimit
   no_operator_form = either_none (mapped_none (prefixed_other (λ r e. tilde_no_primitive_kind 126 refl (primitive_byte 126 r e)))) (mapped_none (prefixed_other (λ r e. caret_no_primitive_kind 94 refl (primitive_byte 94 r e))))
 
   pub no_bare : (f : Flavour) → HasNone (IsBare f) text
-  no_bare f = mapped_none (none_by_byte (partial_some f) (any_begins f) text (λ x t e k. partial_no_primitive_kind x k (primitive_byte x t e)))
+  no_bare f = mapped_none (none_by_byte (any_some f) (any_begins f) text (λ x t e k. partial_no_primitive_kind x k (primitive_byte x t e)))
 
   primitive_kind_some_front : {start rest : List ℕ} {answer : Measured Partial} → IsLongest IsWhitespace middle tt start → IsSeen sized_partial (IsPartial Normal) start answer rest
       → IsFront (IsComparator Normal) text (record { operator = operator.Primitive kind; partial = answer }) rest

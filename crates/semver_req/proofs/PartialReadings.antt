@@ -1,19 +1,17 @@
 -- Each text of a partial version has one value.
-use Rattle.std.proofs.Common.{◌≡◌, ℕ, Bool, true, List, [], ◌∷◌, refl, ap, arith, ◌==◌, ◌||◌}
-use Rattle.std.specs.Char.{is_ascii_digit}
-use Rattle.std.specs.List.{list_all}
-use Rattle.std.proofs.lemmas.Bool.{or_left}
+use Rattle.std.proofs.Common.{◌≡◌, ℕ, List, [], ◌∷◌, refl, ap, arith, ◌==◌}
 use Rattle.std.proofs.lemmas.Bool.Decides.{nat_tests}
 use Rattle.semver_base.specs.declared.partial.XRange.{XRange}
 use Rattle.semver_base.specs.declared.partial.XRange.TheVariants.{Wildcard, Val}
-use Rattle.semver_base.specs.ByteLaws.{Disjoint, MadeOf, joined_made, made_wider, mapped_made, prefixed_begins, prefixed_made, prefixed_some_text, optional_made}
+use Rattle.semver_base.specs.ByteLaws.{Disjoint, prefixed_begins, prefixed_some_text}
 use Rattle.semver_base.specs.ValueLaws.{Unambiguous, either_one, followed_one, joined_one, mapped_one, prefixed_one, never_by, optional_one}
-use Rattle.semver_base.specs.TokenLaws.{loose_begins, loose_some, is_qualifier_byte, number_made, number_one, qualifier_made, qualifier_one}
+use Rattle.semver_base.specs.TokenLaws.{loose_begins, loose_some, number_one, qualifier_one}
 use Rattle.semver_req.specs.Partials.{IsComponent, IsPartial, IsBarePartial, IsSecond, IsThird, strictness_of}
 use Rattle.semver_req.specs.declared.common.values.Flavour.{Flavour}
 use Rattle.semver_req.specs.declared.common.values.Flavour.TheVariants.{Npm, Normal, Specifier}
-use Rattle.semver_req.proofs.Components.{component_clash, is_component_byte, is_loose, wildcard_no_digit, wildcard_wider}
-use Rattle.semver_req.proofs.Partials.{component_dot_apart, partial_begins}
+use Rattle.semver_req.proofs.Components.{component_clash, is_loose, wildcard_no_digit}
+use Rattle.semver_req.proofs.Partials.{component_dot_apart}
+use Rattle.semver_req.proofs.GrammarFacts.{is_component_byte, partial_begins}
 
 -- ---- components
 
@@ -33,13 +31,6 @@ component_one f = record { one = go }
     go text (Val n) Wildcard h k = absurd (no_number text n k h)
     go text (Val m) (Val n) h k = ap Val ((number_one (strictness_of f)).one text m n h k)
 
-component_made : (f : Flavour) → MadeOf (IsComponent f) is_component_byte
-component_made f = record { made = go }
-  where
-    go : (text : List ℕ) (v : XRange) → IsComponent f text v → list_all is_component_byte text ≡ true
-    go text Wildcard h = rw h.1.text_is (rw (wildcard_wider f h.0 h.1.passes) refl)
-    go text (Val n) h = (made_wider is_ascii_digit is_component_byte (λ x d. or_left (is_ascii_digit x) ((x == 42) || (x == 120) || (x == 88)) d) (number_made (strictness_of f))).made text n h
-
 -- ---- partial versions
 
 third_one : (f : Flavour) → Unambiguous (IsThird f)
@@ -58,26 +49,3 @@ pub partial_one : (f : Flavour) → Unambiguous (IsPartial f)
 partial_one Npm = either_one (never_by (λ x. x == 118) is_component_byte v_no_component (prefixed_some_text 118) (prefixed_begins 118) (partial_begins Npm)) (prefixed_one 118 (bare_one Npm)) (bare_one Npm)
 partial_one Normal = bare_one Normal
 partial_one Specifier = bare_one Specifier
-
--- ---- the bytes of partial versions
-
-abbrev pub is_bare_byte : ℕ → Bool
-is_bare_byte x = is_qualifier_byte x || (x == 42)
-
-component_bare : (x : ℕ) → is_component_byte x ≡ true → is_bare_byte x ≡ true
-component_bare x h = grind (arith, nat_tests)
-
-qualifier_bare : (x : ℕ) → is_qualifier_byte x ≡ true → is_bare_byte x ≡ true
-qualifier_bare x h = or_left (is_qualifier_byte x) (x == 42) h
-
-bare_component_made : (f : Flavour) → MadeOf (IsComponent f) is_bare_byte
-bare_component_made f = made_wider is_component_byte is_bare_byte component_bare (component_made f)
-
-third_made : (f : Flavour) → MadeOf (IsThird f) is_bare_byte
-third_made f = prefixed_made (joined_made (bare_component_made f) (made_wider is_qualifier_byte is_bare_byte qualifier_bare (qualifier_made (strictness_of f)))) 46 refl
-
-second_made : (f : Flavour) → MadeOf (IsSecond f) is_bare_byte
-second_made f = prefixed_made (joined_made (bare_component_made f) (optional_made (third_made f))) 46 refl
-
-pub bare_made : (f : Flavour) → MadeOf (IsBarePartial f) is_bare_byte
-bare_made f = mapped_made (joined_made (bare_component_made f) (optional_made (second_made f)))

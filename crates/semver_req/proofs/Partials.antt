@@ -11,12 +11,13 @@ use Rattle.semver_base.specs.declared.lexical.values.Qualifier.{Qualifier}
 use Rattle.semver_base.specs.declared.partial.Partial.{Partial}
 use Rattle.semver_base.specs.declared.partial.XRange.{XRange}
 use Rattle.semver_base.specs.declared.partial.XRange.TheVariants.{Wildcard}
-use Rattle.semver_base.specs.GrammarLaws.{Apart, NonEmpty, either_none, either_that, either_this, prefixed_none, prefixed_other, followed, mapped, prefixed_some, optional_none, optional_some}
-use Rattle.semver_base.specs.ByteLaws.{BeginsBy, Disjoint, apart_by, joined_begins, joined_some_text, mapped_begins, mapped_some_text, none_by_byte, prefixed_begins, prefixed_some_text, optional_begins}
+use Rattle.semver_base.specs.GrammarLaws.{Apart, either_none, either_that, either_this, prefixed_none, prefixed_other, followed, mapped, prefixed_some, optional_none, optional_some}
+use Rattle.semver_base.specs.ByteLaws.{Disjoint, apart_by, none_by_byte, prefixed_begins, prefixed_some_text, optional_begins}
 use Rattle.semver_req.specs.Partials.{IsComponent, IsPartial, IsBarePartial, assembled, component_fits, partial_of, sized_component, sized_partial, strictness_of}
 use Rattle.semver_req.specs.declared.common.values.Flavour.{Flavour}
 use Rattle.semver_req.specs.declared.common.values.Flavour.TheVariants.{Npm}
-use Rattle.semver_req.proofs.Components.{component_begins, component_goes, component_some, is_component_byte, third_longest}
+use Rattle.semver_req.proofs.Components.{third_longest}
+use Rattle.semver_req.proofs.GrammarFacts.{component_goes, is_component_byte, partial_begins, partial_some}
 
 pub no_whitespace : IsWhitespace [] tt
 no_whitespace = NoCharPasses-nil is_not_whitespace
@@ -79,12 +80,6 @@ module _ (f : Flavour) {text middle : List ℕ} {major : Measured XRange} (first
     }
 
 -- ---- npm's `v`
-
-pub partial_begins : (f : Flavour) → BeginsBy (IsBarePartial f) is_component_byte
-partial_begins f = mapped_begins (joined_begins (component_some f) (component_begins f))
-
-pub partial_some : (f : Flavour) → NonEmpty (IsBarePartial f)
-partial_some f = mapped_some_text (joined_some_text (component_some f))
 
 pub no_v : (x : ℕ) → x ≡ 118 → is_component_byte x ≡ true → ⊥
 no_v x e h = grind (arith, nat_tests)

@@ -2,9 +2,29 @@
 use Rattle.std.proofs.Common.{◌≡◌, ◌≤◌, ◌<◌, ℕ, Bool, true, false, ◌&&◌, List, [], ◌∷◌, ◌++◌, ◌⊎◌, inl, inr, leb, ltb, eqb, min, max, refl, sym, ap, ◌∙◌, arith}
 use Rattle.std.specs.List.{list_all}
 use Rattle.std.proofs.lemmas.Bool.{and_from, and_parts, both_ways, cases_Bool, or_cases, or_left, or_right, false_from_ne_true, eqb-true, leb-true, le-leb, ltb-true, lt-ltb, ltb-false, or_parts, or_from}
-use Rattle.semver_req.proofs.Rules.{Bytes, has, take_out, minus, is_void, Rule, empty, byte, seq, alt, many, unless, Many, no_more, one_more, Holds, nullable, Steps, join, behind, without, only, steps, Goes, firsts, same_bytes, same_rule, all_bytes, is_made}
+use Rattle.semver_req.proofs.Rules.{Bytes, has, meets, overlap, take_out, minus, is_void, Rule, empty, byte, seq, alt, many, unless, Many, no_more, one_more, Holds, nullable, Steps, join, behind, without, only, steps, Goes, firsts, same_bytes, same_rule, all_bytes, is_made}
 
 -- ---- sets
+
+meets_there : (s : Bytes) (q : ℕ × ℕ) (x : ℕ) → has s x ≡ true → leb q.0 x ≡ true → ltb x q.1 ≡ true → meets s q ≡ true
+meets_there [] q x h k l = h
+meets_there (r ∷ rs) q x h k l = elim (or_cases (leb r.0 x && ltb x r.1) (has rs x) h) [
+  | inl here ↦
+      let both = and_parts (leb r.0 x) (ltb x r.1) here in
+      let low : r.0 ≤ x = leb-true r.0 x both.0 in
+      let high : x < r.1 = ltb-true x r.1 both.1 in
+      let from : q.0 ≤ x = leb-true q.0 x k in
+      let to : x < q.1 = ltb-true x q.1 l in
+      or_left _ (meets rs q) (and_from (ltb q.0 r.1) _ (lt-ltb q.0 r.1 (omega arith)) (lt-ltb r.0 q.1 (omega arith)))
+  | inr there ↦ or_right _ (meets rs q) (meets_there rs q x there k l)
+]
+
+pub overlap_there : (s t : Bytes) (x : ℕ) → has s x ≡ true → has t x ≡ true → overlap s t ≡ true
+overlap_there s [] x h k = k
+overlap_there s (q ∷ qs) x h k = elim (or_cases (leb q.0 x && ltb x q.1) (has qs x) k) [
+  | inl here ↦ let both = and_parts (leb q.0 x) (ltb x q.1) here in or_left (meets s q) (overlap s qs) (meets_there s q x h both.0 both.1)
+  | inr there ↦ or_right (meets s q) (overlap s qs) (overlap_there s qs x h there)
+]
 
 take_out_into : (r : ℕ × ℕ) (s : Bytes) (x : ℕ) → has s x ≡ true → (leb r.0 x && ltb x r.1) ≡ false → has (take_out r s) x ≡ true
 take_out_into r [] x h k = h
@@ -239,7 +259,7 @@ made_many : (s : Bytes) (R : List ℕ → Type 0) → ((t : List ℕ) → R t �
 made_many s R w (no_more e) = rw e refl
 made_many s R w (one_more a b e h k) = rw e (made_append s a b (w a h) (made_many s R w k))
 
-made_all : (r : Rule) (t : List ℕ) → Holds r t → list_all (has (all_bytes r)) t ≡ true
+pub made_all : (r : Rule) (t : List ℕ) → Holds r t → list_all (has (all_bytes r)) t ≡ true
 made_all empty t h = rw h refl
 made_all (byte s) t h = rw h.1 (and_from (has s h.0) true h.2 refl)
 made_all (seq a b) t h = rw h.2 (made_append (all_bytes (seq a b)) h.0 h.1

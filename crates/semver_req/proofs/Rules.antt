@@ -20,6 +20,15 @@ abbrev pub minus : Bytes → Bytes → Bytes
 minus p [] = p
 minus p (r ∷ rs) = minus (take_out r p) rs
 
+-- some byte may be in both
+abbrev pub meets : Bytes → ℕ × ℕ → Bool
+meets [] q = false
+meets (r ∷ rs) q = (ltb q.0 r.1 && ltb r.0 q.1) || meets rs q
+
+abbrev pub overlap : Bytes → Bytes → Bool
+overlap s [] = false
+overlap s (q ∷ qs) = meets s q || overlap s qs
+
 -- the set is empty
 abbrev pub is_void : Bytes → Bool
 is_void [] = true

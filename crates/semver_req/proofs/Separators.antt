@@ -1,15 +1,15 @@
 -- Leading separators between comparators.
-use Rattle.std.proofs.Common.{◌≡◌, ◌≤◌, ◌<◌, ℕ, Bool, true, false, List, [], ◌∷◌, ◌++◌, length, get_or, Option, Some, None, refl, sym, ap, ◌∙◌, arith, length-append, inl, inr, ◌==◌, ◌||◌, codes, nat_le}
+use Rattle.std.proofs.Common.{◌≡◌, ◌≤◌, ◌<◌, ℕ, true, false, List, [], ◌∷◌, ◌++◌, length, Option, Some, None, refl, sym, ap, ◌∙◌, arith, length-append, inl, inr, ◌==◌, codes, nat_le}
 use Rattle.std.specs.Char.{is_whitespace}
-use Rattle.std.proofs.lemmas.Bool.{cases_lt, eq-eqb, or_left, or_right}
+use Rattle.std.proofs.lemmas.Bool.{cases_lt, eq-eqb}
 use Rattle.std.proofs.lemmas.Bool.Decides.{nat_tests}
-use Rattle.semver_base.specs.Grammar.{After, this, that, HasNone, IsLongest, IsText, Reads}
+use Rattle.semver_base.specs.Grammar.{After, HasNone, IsLongest, IsText, Reads}
 use Rattle.semver_base.specs.Lexical.{IsWhitespace}
 use Rattle.semver_base.specs.WhitespaceLaws.{whitespace_made, is_whitespace_byte, no_whitespace, some_whitespace}
 use Rattle.semver_base.specs.ByteLaws.{BeginsBy, Disjoint, apart_by, goes_from_made, joined_begins, mapped_begins}
 use Rattle.semver_base.specs.GrammarLaws.{Apart, NonEmpty, either_longer, either_none, either_that, either_this, followed, followed_none_second, joined_none_first, mapped, mapped_none}
 use Rattle.semver_req.specs.Pieces.{IsListOperator, IsNpmSeparator, IsOperator}
-use Rattle.semver_req.proofs.PieceReadings.{operator_some}
+use Rattle.semver_req.proofs.GrammarFacts.{operator_apart, operator_some, whitespace_operator}
 
 -- ---- a token
 
@@ -31,34 +31,6 @@ module _ {text : List ℕ} (other : (rest : List ℕ) → text ≡ 44 ∷ rest �
   pub operator_or_none : (r : Option (Unit {0} × List ℕ)) → Reads (IsText (codes "&&")) text r → Reads IsListOperator text r
   operator_or_none None n = either_none n no_comma
   operator_or_none (Some p) h = either_this h no_comma
-
--- ---- `&&` or `,`, and whitespace
-
-abbrev is_operator_byte : ℕ → Bool
-is_operator_byte b = (b == 38) || (b == 44)
-
-operator_begins : BeginsBy IsListOperator is_operator_byte
-operator_begins = record { begins = λ x b. go x b.more b.value b.stands }
-  where
-    go : (x : ℕ) (more : List ℕ) (v : Unit {0}) → IsListOperator (x ∷ more) v → is_operator_byte x ≡ true
-    go x more v (this h) = let same_byte : x ≡ 38 = cc in or_left (x == 38) (x == 44) (eq-eqb x 38 same_byte)
-    go x more v (that h) = let same_byte : x ≡ 44 = cc in or_right (x == 38) (x == 44) (eq-eqb x 44 same_byte)
-
--- neither `&&` nor `,` continues
-operator_apart : Apart IsListOperator IsWhitespace
-operator_apart = record { apart = λ x g b. go x g.front g.more g.short_value g.long_value g.short g.long }
-  where
-    go : (x : ℕ) (a more : List ℕ) (v u : Unit {0}) → IsListOperator a v → IsListOperator (a ++ (x ∷ more)) u → ⊥
-    go x a more v u (this h) (this k) = omega (arith, ap length k, ap length h, length-append a (x ∷ more))
-    go x a more v u (this h) (that k) = omega (arith, ap length k, ap length h, length-append a (x ∷ more))
-    go x a more v u (that h) (this k) = omega (arith, ap (λ t. get_or t 0 0) (ap (λ t. t ++ (x ∷ more)) (sym h) ∙ k))
-    go x a more v u (that h) (that k) = omega (arith, ap length k, ap length h, length-append a (x ∷ more))
-
-whitespace_no_operator : Disjoint is_whitespace_byte is_operator_byte
-whitespace_no_operator x h k = grind (arith, nat_tests)
-
-whitespace_operator : Apart IsWhitespace (After IsListOperator IsWhitespace)
-whitespace_operator = apart_by is_whitespace_byte is_operator_byte whitespace_no_operator (goes_from_made whitespace_made) (mapped_begins (joined_begins operator_some operator_begins))
 
 -- ---- npm's separators
 

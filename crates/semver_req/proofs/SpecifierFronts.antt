@@ -16,8 +16,9 @@ use Rattle.semver_base.specs.ValueLaws.{in_place}
 use Rattle.semver_req.specs.Partials.{IsComponent, IsBarePartial, IsSecond, IsThird, is_wildcard, partial_of}
 use Rattle.semver_req.specs.declared.common.values.Flavour.TheVariants.{Normal, Specifier}
 use Rattle.semver_base.specs.TokenLaws.{loose_goes, loose_some, strict_zero, number_one, strict_no_digit}
-use Rattle.semver_req.proofs.Components.{component_goes, component_number, component_wildcard, wildcard_no_digit}
+use Rattle.semver_req.proofs.Components.{component_number, component_wildcard, wildcard_no_digit}
 use Rattle.semver_req.proofs.Partials.{component_dot_apart}
+use Rattle.semver_req.proofs.GrammarFacts.{component_goes}
 
 -- ---- prefixes that are only known to be the longest
 

@@ -17,11 +17,10 @@ use Rattle.semver_req.specs.Outcome.{IsGood, IsSpecifierOutcome, IsSpecifierRang
 use Rattle.semver_req.specs.Partials.{IsBarePartial}
 use Rattle.semver_req.specs.Tag.{is_valid_tag}
 use Rattle.semver_req.specs.declared.common.values.Flavour.TheVariants.{Normal, Specifier}
-use Rattle.semver_req.proofs.Components.{is_component_byte}
-use Rattle.semver_req.proofs.Partials.{partial_begins, partial_some}
 use Rattle.semver_req.proofs.PrimitiveKindsNoTag.{are_tag_characters, first_caret, first_equal, first_greater, first_less}
 use Rattle.semver_req.proofs.SpecifierFits.{bare_fits, tilde_fits}
 use Rattle.semver_req.proofs.SpecifierFronts.{IsPast, bare_cut, bare_has_specifier}
+use Rattle.semver_req.proofs.GrammarFacts.{is_component_byte, partial_begins, partial_some}
 
 -- the text is a comparator, and nothing or whitespace follows it
 record BeginsByComparator (text : List ℕ) (c : Comparator) : Type 0 where

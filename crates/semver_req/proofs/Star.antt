@@ -16,7 +16,8 @@ use Rattle.semver_req.specs.Rereading.{StarIsAnyVersion}
 use Rattle.semver_req.specs.declared.common.values.Flavour.{Flavour}
 use Rattle.semver_req.specs.declared.range_set_or_tag.RangeSetOrTag.TheVariants as inner
 use Rattle.semver_req.specs.declared.common.values.Flavour.TheVariants.{Npm, Normal, Specifier}
-use Rattle.semver_req.proofs.ComparatorReadings.{comparator_goes, comparator_one}
+use Rattle.semver_req.proofs.ComparatorReadings.{comparator_one}
+use Rattle.semver_req.proofs.GrammarFacts.{comparator_goes}
 use Rattle.semver_req.proofs.WrittenSets.{cut_outcome, set_outcome, set_trimmed}
 
 -- ---- in npm's and the normalized grammar it is the canonical form of everything

@@ -30,7 +30,8 @@ use Rattle.semver_req.specs.Comparators.{IsComparator, IsLed, fits, no_more, num
 use Rattle.semver_req.specs.Partials.{IsComponent, IsPartial, IsBarePartial, IsThird, is_wildcard, strictness_of}
 use Rattle.semver_req.specs.declared.common.values.Flavour.{Flavour}
 use Rattle.semver_req.specs.declared.common.values.Flavour.TheVariants.{Npm, Normal, Specifier}
-use Rattle.semver_req.proofs.Partials.{no_whitespace, partial_some}
+use Rattle.semver_req.proofs.Partials.{no_whitespace}
+use Rattle.semver_req.proofs.GrammarFacts.{partial_some}
 
 -- ---- partial versions
 

@@ -2,7 +2,8 @@ use Rattle.std.proofs.Common.{[], ◌∷◌, ◌++◌, rules, refl, sym, ◌∙�
 use Rattle.semver_base.specs.ListLaws.{so_far_more, so_far_one}
 use Rattle.semver_req.specs.Written.{comparator_of}
 use Rattle.semver_req.proofs.LargeBounds.{at_no_overflow, at_none, first_before, first_overflows, next_before, next_overflows, one_more_none}
-use Rattle.semver_req.proofs.PieceReadings.{list_shorter, listing}
+use Rattle.semver_req.proofs.GrammarFacts.{listing}
+use Rattle.semver_req.proofs.PieceReadings.{list_shorter}
 use Rattle.semver_req.proofs.error_places.causes.large_bound.Goals as goal
 
 pub returns-in_default : goal.returns-in_default

@@ -2,7 +2,8 @@ use Rattle.std.proofs.Common.{[], ◌∷◌, ◌++◌, ◌∙◌, rules}
 use Rattle.semver_base.specs.ListLaws.{so_far_more, so_far_one}
 use Rattle.semver_req.specs.Written.{comparator_of}
 use Rattle.semver_req.proofs.Joining.{and_bound, and_invalid, and_large, and_range}
-use Rattle.semver_req.proofs.PieceReadings.{list_shorter, listing}
+use Rattle.semver_req.proofs.GrammarFacts.{listing}
+use Rattle.semver_req.proofs.PieceReadings.{list_shorter}
 use Rattle.semver_req.proofs.range_set_or_tag.pieces.RangeOrInvalid.comparators.Goals as goal
 
 pub loop-next-init : goal.loop-next-init
