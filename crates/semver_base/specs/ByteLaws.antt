@@ -2,7 +2,7 @@
 use Rattle.std.proofs.Common.{◌≡◌, ℕ, Bool, true, List, [], ◌∷◌, ◌++◌, Option, Some, None, refl, sym, ap, ◌∙◌, append_assoc, ◌==◌, eq-eqb}
 use Rattle.std.specs.List.{list_all}
 use Rattle.std.proofs.lemmas.Bool.{and_from, and_parts}
-use Rattle.semver_base.specs.Grammar.{Either, this, that, HasNone, Joined, Listed, last_item, closed_item, more_items, Mapped, Prefixed, Optional, Run}
+use Rattle.semver_base.specs.Grammar.{HasNone, Joined, Listed, last_item, closed_item, more_items, Mapped, Prefixed, Optional, Run}
 use Rattle.semver_base.specs.GrammarLaws.{Apart, Begins, GoesOn, NoClash, NonEmpty, fronts, same, shorter, longer}
 
 -- p holds of each byte with which a text of A begins, q of each with which a text of A continues to a longer one
@@ -97,14 +97,6 @@ module _ {V W : Type 0} {S : List ℕ → List ℕ → Type 0} {A : List ℕ →
       go [] s v e h = never.some v h
       go (y ∷ f) s v e h = cc e
 
-  pub joined_some_second : NonEmpty B → NonEmpty (Joined S A B)
-  joined_some_second never = record { some = λ v o. go o.first o.second v.1 o.text_is o.in_second }
-    where
-      go : (f s : List ℕ) (w : W) → [] ≡ f ++ s → B s w → ⊥
-      go [] [] w e h = never.some w h
-      go [] (y ∷ s) w e h = cc e
-      go (y ∷ f) s w e h = cc e
-
   -- B has no empty text
   pub joined_goes_second : {p : ℕ → Bool} → NoClash S A B → NonEmpty B → GoesBy B p → GoesBy (Joined S A B) p
   joined_goes_second {p} d never k = record { goes = λ x o. go x o.front o.more o.short_value o.long_value o.short o.long }
@@ -198,18 +190,3 @@ none_by_byte {V} {A} never b text other = record { none = go }
     go : (a c : List ℕ) (w : V) → text ≡ a ++ c → A a w → ⊥
     go [] c w e h = never.some w h
     go (x ∷ a) c w e h = other x (a ++ c) e (b.begins x (record { more = a; value = w; stands = h }))
-
-module _ {V : Type 0} {A B : List ℕ → V → Type 0} where
-  pub either_begins : {p : ℕ → Bool} → BeginsBy A p → BeginsBy B p → BeginsBy (Either A B) p
-  either_begins {p} a b = record { begins = λ x o. go x o.more o.value o.stands }
-    where
-      go : (x : ℕ) (more : List ℕ) (v : V) → Either A B (x ∷ more) v → p x ≡ true
-      go x more v (this h) = a.begins x (record { more = more; value = v; stands = h })
-      go x more v (that h) = b.begins x (record { more = more; value = v; stands = h })
-
-  pub either_made : {p : ℕ → Bool} → MadeOf A p → MadeOf B p → MadeOf (Either A B) p
-  either_made {p} a b = record { made = go }
-    where
-      go : (text : List ℕ) (v : V) → Either A B text v → list_all p text ≡ true
-      go text v (this h) = a.made text v h
-      go text v (that h) = b.made text v h

@@ -1,12 +1,12 @@
 -- Grammars in which a text has one value.
-use Rattle.std.proofs.Common.{◌≡◌, ◌≤◌, ℕ, Bool, true, false, List, [], ◌∷◌, ◌++◌, length, Option, Some, None, refl, sym, ap, ◌∙◌, append-nil}
+use Rattle.std.proofs.Common.{◌≡◌, ◌≤◌, ℕ, Bool, true, List, [], ◌∷◌, ◌++◌, length, Option, Some, None, refl, sym, ap, ◌∙◌, append-nil}
 use Rattle.std.specs.List.{list_all}
-use Rattle.std.proofs.lemmas.Bool.{and_from, and_parts, both_ways}
+use Rattle.std.proofs.lemmas.Bool.{and_from, and_parts}
 use native.Mathlib.Nat.{le_of_eq}
 use Rattle.semver_base.specs.Grammar.{After, Before, Either, this, that, IsLongest, Followed, Joined, Listed, last_item, closed_item, more_items, Mapped, Prefixed, Optional, Run, Stops}
 use Rattle.semver_base.specs.LengthLaws.{front_le, goes_on}
-use Rattle.semver_base.specs.GrammarLaws.{Apart, GoesOn, NoClash, NonEmpty, fronts, same, shorter, longer, no_clash}
-use Rattle.semver_base.specs.ByteLaws.{BeginsBy, Disjoint, GoesBy, MadeOf, list_all-wider}
+use Rattle.semver_base.specs.GrammarLaws.{Apart, NoClash, NonEmpty, fronts, same, shorter, longer, no_clash}
+use Rattle.semver_base.specs.ByteLaws.{BeginsBy, Disjoint, GoesBy, MadeOf}
 use Rattle.semver_base.specs.ListLaws.{IsListing, item_apart, listed_some, separator_apart, stops_here}
 
 -- a text of A has one value
@@ -37,22 +37,6 @@ never_by {V} {W} {A} {B} p q d never a b = record { both = go }
     go [] v w h k = never.some v h
     go (x ∷ text) v w h k = d x (a.begins x (record { more = text; value = v; stands = h })) (b.begins x (record { more = text; value = w; stands = k }))
 
--- each text of A is one of B
-pub record Within {V W : Type 0} (A : List ℕ → V → Type 0) (B : List ℕ → W → Type 0) : Type 0 where
-  pub texts : (text : List ℕ) (v : V) → A text v → (w : W) × B text w
-
-pub goes_within : {V W : Type 0} {A : List ℕ → V → Type 0} {B : List ℕ → W → Type 0} {p : ℕ → Bool} → Within A B → GoesBy B p → GoesBy A p
-goes_within {A = A} {B = B} {p = p} in_b g = record { goes = go }
-  where
-    go : (x : ℕ) → GoesOn A x → p x ≡ true
-    go x o =
-        let s = in_b.texts o.front o.short_value o.short in
-        let l = in_b.texts (o.front ++ (x ∷ o.more)) o.long_value o.long in
-        g.goes x (record { front = o.front; more = o.more; short_value = s.0; long_value = l.0; short = s.1; long = l.1 })
-
-pub some_within : {V W : Type 0} {A : List ℕ → V → Type 0} {B : List ℕ → W → Type 0} → Within A B → NonEmpty B → NonEmpty A
-some_within in_b never = record { some = λ v h. let b = in_b.texts [] v h in never.some b.0 b.1 }
-
 -- a grammar with fewer texts
 pub narrowed_one : {V : Type 0} {A : List ℕ → V → Type 0} (B : List ℕ → V → Type 0) → ((a : List ℕ) (w : V) → B a w → A a w) → Unambiguous A → Unambiguous B
 narrowed_one B fewer u = record { one = λ text v w h k. u.one text v w (fewer text v h) (fewer text w k) }
@@ -61,10 +45,6 @@ narrowed_one B fewer u = record { one = λ text v w h k. u.one text v w (fewer t
 
 pub run_one : (p : ℕ → Bool) → Unambiguous (Run p)
 run_one p = record { one = λ text v w h k. h.is ∙ sym k.is }
-
--- a grammar without values
-pub unit_one : (A : List ℕ → Unit {0} → Type 0) → Unambiguous A
-unit_one A = record { one = λ text v w h k. refl }
 
 module _ {V : Type 0} {A : List ℕ → V → Type 0} where
   pub prefixed_one : (m : ℕ) → Unambiguous A → Unambiguous (Prefixed m A)
@@ -193,11 +173,7 @@ module _ {V : Type 0} {A : List ℕ → V → Type 0} {S : List ℕ → Unit {0}
     pub listed_one : Unambiguous (Listed A S)
     listed_one = record { one = λ text vs ws h k. go text text vs ws refl h k }
 
--- ---- texts with a byte that fails a test
-
--- each text of A has a byte of which p doesn't hold
-pub record HasOther {V : Type 0} (A : List ℕ → V → Type 0) (p : ℕ → Bool) : Type 0 where
-  pub other : (text : List ℕ) (v : V) → A text v → list_all p text ≡ true → ⊥
+-- ---- tests of all bytes
 
 pub all_first : (p : ℕ → Bool) (xs ys : List ℕ) → list_all p (xs ++ ys) ≡ true → list_all p xs ≡ true
 all_first p [] ys h = refl
@@ -206,37 +182,6 @@ all_first p (x ∷ xs) ys h = let both = and_parts (p x) (list_all p (xs ++ ys))
 pub all_second : (p : ℕ → Bool) (xs ys : List ℕ) → list_all p (xs ++ ys) ≡ true → list_all p ys ≡ true
 all_second p [] ys h = h
 all_second p (x ∷ xs) ys h = all_second p xs ys (and_parts (p x) (list_all p (xs ++ ys)) h).1
-
-pub never_made : {V W : Type 0} {A : List ℕ → V → Type 0} {B : List ℕ → W → Type 0} (p : ℕ → Bool) → HasOther A p → MadeOf B p → Never A B
-never_made p a b = record { both = λ text v w h k. a.other text v h (b.made text w k) }
-
-module _ {V : Type 0} {A : List ℕ → V → Type 0} where
-  pub other_narrower : (p q : ℕ → Bool) → ((x : ℕ) → p x ≡ true → q x ≡ true) → HasOther A q → HasOther A p
-  other_narrower p q w a = record { other = λ text v h k. a.other text v h (list_all-wider p q w text k) }
-
-  pub mapped_other : {W : Type 0} {f : V → W} {p : ℕ → Bool} → HasOther A p → HasOther (Mapped f A) p
-  mapped_other a = record { other = λ text w h k. a.other text h.value h.stands k }
-
-  pub prefixed_other_byte : (m : ℕ) (p : ℕ → Bool) → p m ≡ false → HasOther (Prefixed m A) p
-  prefixed_other_byte m p fails = record { other = go }
-    where
-      go : (text : List ℕ) (v : V) → Prefixed m A text v → list_all p text ≡ true → ⊥
-      go [] v h k = absurd h
-      go (x ∷ rest) v h k = both_ways (p m) fails (rw h.0 at (and_parts (p x) (list_all p rest) k).0)
-
-  pub either_other : {B : List ℕ → V → Type 0} {p : ℕ → Bool} → HasOther A p → HasOther B p → HasOther (Either A B) p
-  either_other {B} {p} a b = record { other = go }
-    where
-      go : (text : List ℕ) (v : V) → Either A B text v → list_all p text ≡ true → ⊥
-      go text v (this h) k = a.other text v h k
-      go text v (that h) k = b.other text v h k
-
-module _ {V W : Type 0} {S : List ℕ → List ℕ → Type 0} {A : List ℕ → V → Type 0} {B : List ℕ → W → Type 0} where
-  pub joined_other_first : {p : ℕ → Bool} → HasOther A p → HasOther (Joined S A B) p
-  joined_other_first {p} a = record { other = λ text v h k. a.other h.first v.0 h.in_first (all_first p h.first h.second (rw h.text_is at k)) }
-
-  pub joined_other_second : {p : ℕ → Bool} → HasOther B p → HasOther (Joined S A B) p
-  joined_other_second {p} b = record { other = λ text v h k. b.other h.second v.1 h.in_second (all_second p h.first h.second (rw h.text_is at k)) }
 
 -- ---- bytes that pass, any number of them
 
