@@ -27,9 +27,15 @@ use Rattle.semver_req.proofs.GrammarTexts.{InComparator, InComponent, InPartial,
 use Rattle.semver_req.proofs.RuleFacts.{IsUnder, apart_from, begins_in, goes_in, begins_first, is_apart, is_going, made_of_all, marked, never_both, no_common, one_mark, plain, some_by, under}
 use Rattle.semver_req.proofs.RuleLaws.{made, overlap_there}
 use Rattle.semver_req.proofs.RuleTexts.{Any, Describes, Each, after_described, before_described, bytes, either_described, listed_described, prefixed_described}
-use Rattle.semver_req.proofs.Rules.{Bytes, Rule, all_bytes, alt, byte, firsts, has, Holds, letter, many, Many, no_more, one_more, optional, overlap, seq, steps}
+use Rattle.semver_req.proofs.Rules.{Bytes, Rule, all_bytes, alt, byte, firsts, has, Holds, is_void, letter, many, Many, minus, no_more, nullable, one_more, optional, overlap, seq, steps}
 use Rattle.semver_req.proofs.States.{is_each}
 use Rattle.semver_req.proofs.WhitespaceTexts.{some_whitespace_described, whitespace_described}
+
+-- what is so for each of the three grammars
+flavours : (P : Flavour → Type 0) → P Npm → P Normal → P Specifier → (f : Flavour) → P f
+flavours P a b c Npm = a
+flavours P a b c Normal = b
+flavours P a b c Specifier = c
 
 -- ---- rules that hold the texts of each grammar
 
@@ -166,26 +172,17 @@ component_passes : (x : ℕ) → has component_bytes x ≡ true → is_component
 component_passes x h = grind (arith, nat_tests)
 
 pub component_goes : (f : Flavour) → GoesBy (IsComponent f) is_ascii_digit
-component_goes f = goes_in (component_under f) is_ascii_digit rule.digits pass (go f)
+component_goes f = goes_in (component_under f) is_ascii_digit rule.digits pass (flavours (λ f. is_each (is_going rule.digits) (plain (rule.component f)) ≡ true) refl refl refl f)
   where
     pass : (x : ℕ) → has rule.digits x ≡ true → is_ascii_digit x ≡ true
     pass x h = grind (arith, nat_tests)
 
-    go : (f : Flavour) → is_each (is_going rule.digits) (plain (rule.component f)) ≡ true
-    go Npm = refl
-    go Normal = refl
-    go Specifier = refl
-
 -- those without a `v` in front
 pub partial_some : (f : Flavour) → NonEmpty (IsBarePartial f)
-partial_some Npm = some_by (bare_partial_under Npm) refl
-partial_some Normal = some_by (bare_partial_under Normal) refl
-partial_some Specifier = some_by (bare_partial_under Specifier) refl
+partial_some f = some_by (bare_partial_under f) (flavours (λ f. nullable (plain (rule.bare_partial f)) ≡ false) refl refl refl f)
 
 pub partial_begins : (f : Flavour) → BeginsBy (IsBarePartial f) is_component_byte
-partial_begins Npm = begins_in (bare_partial_under Npm) is_component_byte component_bytes component_passes refl
-partial_begins Normal = begins_in (bare_partial_under Normal) is_component_byte component_bytes component_passes refl
-partial_begins Specifier = begins_in (bare_partial_under Specifier) is_component_byte component_bytes component_passes refl
+partial_begins f = begins_in (bare_partial_under f) is_component_byte component_bytes component_passes (flavours (λ f. is_void (minus (firsts (steps (plain (rule.bare_partial f)))) component_bytes) ≡ true) refl refl refl f)
 
 abbrev pub is_partial_byte : ℕ → Bool
 is_partial_byte x = is_component_byte x || (x == 118)
@@ -197,9 +194,7 @@ partial_passes : (x : ℕ) → has partial_bytes x ≡ true → is_partial_byte 
 partial_passes x h = grind (arith, nat_tests)
 
 pub any_begins : (f : Flavour) → BeginsBy (IsPartial f) is_partial_byte
-any_begins Npm = begins_in (partial_under Npm) is_partial_byte partial_bytes partial_passes refl
-any_begins Normal = begins_in (partial_under Normal) is_partial_byte partial_bytes partial_passes refl
-any_begins Specifier = begins_in (partial_under Specifier) is_partial_byte partial_bytes partial_passes refl
+any_begins f = begins_in (partial_under f) is_partial_byte partial_bytes partial_passes (flavours (λ f. is_void (minus (firsts (steps (plain (rule.partial f)))) partial_bytes) ≡ true) refl refl refl f)
 
 -- ---- comparison operators
 
@@ -219,20 +214,10 @@ pub primitive_kind_whitespace : Apart IsPrimitiveKind IsSomeWhitespace
 primitive_kind_whitespace = apart_from kind_under some_whitespace_under refl
 
 pub primitive_kind_apart : (f : Flavour) → Apart IsPrimitiveKind (After IsWhitespace (IsPartial f))
-primitive_kind_apart f = apart_from kind_under (spaced_under f) (go f)
-  where
-    go : (f : Flavour) → is_each (is_apart (firsts (steps (plain (seq rule.whitespace (rule.partial f)))))) (plain rule.kind) ≡ true
-    go Npm = refl
-    go Normal = refl
-    go Specifier = refl
+primitive_kind_apart f = apart_from kind_under (spaced_under f) (flavours (λ f. is_each (is_apart (firsts (steps (plain (seq rule.whitespace (rule.partial f)))))) (plain rule.kind) ≡ true) refl refl refl f)
 
 pub whitespace_apart : (f : Flavour) → Apart IsWhitespace (IsPartial f)
-whitespace_apart f = apart_from whitespace_under (partial_under f) (go f)
-  where
-    go : (f : Flavour) → is_each (is_apart (firsts (steps (plain (rule.partial f))))) (plain rule.whitespace) ≡ true
-    go Npm = refl
-    go Normal = refl
-    go Specifier = refl
+whitespace_apart f = apart_from whitespace_under (partial_under f) (flavours (λ f. is_each (is_apart (firsts (steps (plain (rule.partial f))))) (plain rule.whitespace) ≡ true) refl refl refl f)
 
 -- ---- comparators
 
@@ -243,50 +228,29 @@ is_bare_byte x = is_qualifier_byte x || (x == 42)
 abbrev bare_bytes : Bytes
 bare_bytes = (42, 44) ∷ ((45, 47) ∷ ((48, 58) ∷ ((65, 91) ∷ ((97, 123) ∷ []))))
 
+going : (f : Flavour) → is_each (is_going bare_bytes) (plain (rule.comparator f)) ≡ true
+going = flavours (λ f. is_each (is_going bare_bytes) (plain (rule.comparator f)) ≡ true) refl refl refl
+
 pub comparator_goes : (f : Flavour) → GoesBy (IsComparator f) is_bare_byte
-comparator_goes f = goes_in (comparator_under f) is_bare_byte bare_bytes pass (go f)
+comparator_goes f = goes_in (comparator_under f) is_bare_byte bare_bytes pass (going f)
   where
     pass : (x : ℕ) → has bare_bytes x ≡ true → is_bare_byte x ≡ true
     pass x h = grind (arith, nat_tests)
 
-    go : (f : Flavour) → is_each (is_going bare_bytes) (plain (rule.comparator f)) ≡ true
-    go Npm = refl
-    go Normal = refl
-    go Specifier = refl
-
 pub comparator_some : (f : Flavour) → NonEmpty (IsComparator f)
-comparator_some Npm = some_by (comparator_under Npm) refl
-comparator_some Normal = some_by (comparator_under Normal) refl
-comparator_some Specifier = some_by (comparator_under Specifier) refl
+comparator_some f = some_by (comparator_under f) (flavours (λ f. nullable (plain (rule.comparator f)) ≡ false) refl refl refl f)
 
 pub any_some : (f : Flavour) → NonEmpty (IsPartial f)
-any_some Npm = some_by (partial_under Npm) refl
-any_some Normal = some_by (partial_under Normal) refl
-any_some Specifier = some_by (partial_under Specifier) refl
+any_some f = some_by (partial_under f) (flavours (λ f. nullable (plain (rule.partial f)) ≡ false) refl refl refl f)
 
 pub tilde_caret : (f : Flavour) → Never (IsTildeOf f) (IsCaretOf f)
-tilde_caret f = never_both (tilde_under f) (caret_under f) (go f)
-  where
-    go : (f : Flavour) → is_each one_mark (marked (plain (rule.tilde f)) (plain (rule.caret f))) ≡ true
-    go Npm = refl
-    go Normal = refl
-    go Specifier = refl
+tilde_caret f = never_both (tilde_under f) (caret_under f) (flavours (λ f. is_each one_mark (marked (plain (rule.tilde f)) (plain (rule.caret f))) ≡ true) refl refl refl f)
 
 pub primitive_bare : (f : Flavour) → Never (IsOfPrimitive f) (IsBare f)
-primitive_bare f = never_both (primitive_under f) (bare_under f) (go f)
-  where
-    go : (f : Flavour) → is_each one_mark (marked (plain (rule.primitive f)) (plain (rule.partial f))) ≡ true
-    go Npm = refl
-    go Normal = refl
-    go Specifier = refl
+primitive_bare f = never_both (primitive_under f) (bare_under f) (flavours (λ f. is_each one_mark (marked (plain (rule.primitive f)) (plain (rule.partial f))) ≡ true) refl refl refl f)
 
 pub operators_others : (f : Flavour) → Never (Either (IsTildeOf f) (IsCaretOf f)) (Either (IsOfPrimitive f) (IsBare f))
-operators_others f = never_both (operators_under f) (others_under f) (go f)
-  where
-    go : (f : Flavour) → is_each one_mark (marked (plain (alt (rule.tilde f) (rule.caret f))) (plain (alt (rule.primitive f) (rule.partial f)))) ≡ true
-    go Npm = refl
-    go Normal = refl
-    go Specifier = refl
+operators_others f = never_both (operators_under f) (others_under f) (flavours (λ f. is_each one_mark (marked (plain (alt (rule.tilde f) (rule.caret f))) (plain (alt (rule.primitive f) (rule.partial f)))) ≡ true) refl refl refl f)
 
 pub operators_bare : (f : Flavour) → Never (Either (IsTildeOf f) (IsCaretOf f)) (IsBare f)
 operators_bare f = record { both = λ t v w h k. (operators_others f).both t v w h (that k) }
@@ -324,35 +288,15 @@ disjoint s t e x h k = both_ways (overlap s t) e (overlap_there s t x h k)
 
 -- the lists of each grammar
 pub listing : (f : Flavour) → IsListing (IsComparator f) (IsSeparator f) (has (starts f)) (has bare_bytes) (has (between f)) (has (between f))
-listing Npm = record {
-  item_some = comparator_some Npm;
-  separator_some = some_by (separators_under Npm) refl;
-  item_begins = begins_first (comparator_under Npm);
-  item_goes = goes_in (comparator_under Npm) (has bare_bytes) bare_bytes (λ x h. h) refl;
-  separator_begins = begins_from_made (made_of_all (separators_under Npm));
-  separator_goes = goes_from_made (made_of_all (separators_under Npm));
-  after_item = disjoint bare_bytes (between Npm) refl;
-  after_separator = disjoint (between Npm) (starts Npm) refl;
-}
-listing Normal = record {
-  item_some = comparator_some Normal;
-  separator_some = some_by (separators_under Normal) refl;
-  item_begins = begins_first (comparator_under Normal);
-  item_goes = goes_in (comparator_under Normal) (has bare_bytes) bare_bytes (λ x h. h) refl;
-  separator_begins = begins_from_made (made_of_all (separators_under Normal));
-  separator_goes = goes_from_made (made_of_all (separators_under Normal));
-  after_item = disjoint bare_bytes (between Normal) refl;
-  after_separator = disjoint (between Normal) (starts Normal) refl;
-}
-listing Specifier = record {
-  item_some = comparator_some Specifier;
-  separator_some = some_by (separators_under Specifier) refl;
-  item_begins = begins_first (comparator_under Specifier);
-  item_goes = goes_in (comparator_under Specifier) (has bare_bytes) bare_bytes (λ x h. h) refl;
-  separator_begins = begins_from_made (made_of_all (separators_under Specifier));
-  separator_goes = goes_from_made (made_of_all (separators_under Specifier));
-  after_item = disjoint bare_bytes (between Specifier) refl;
-  after_separator = disjoint (between Specifier) (starts Specifier) refl;
+listing f = record {
+  item_some = comparator_some f;
+  separator_some = some_by (separators_under f) (flavours (λ f. nullable (plain (rule.separator f)) ≡ false) refl refl refl f);
+  item_begins = begins_first (comparator_under f);
+  item_goes = goes_in (comparator_under f) (has bare_bytes) bare_bytes (λ x h. h) (going f);
+  separator_begins = begins_from_made (made_of_all (separators_under f));
+  separator_goes = goes_from_made (made_of_all (separators_under f));
+  after_item = disjoint bare_bytes (between f) (flavours (λ f. overlap bare_bytes (between f) ≡ false) refl refl refl f);
+  after_separator = disjoint (between f) (starts f) (flavours (λ f. overlap (between f) (starts f) ≡ false) refl refl refl f);
 }
 
 -- ---- hyphen ranges
