@@ -63,7 +63,7 @@ free_comparator (OfPrimitive kind p) = free_partial p
 free_comparator (Bare p) = free_partial p
 free_comparator (Hyphen p q) = (free_partial p, free_partial q)
 
-free_list : (cs : List Comparator) → Each (InComparator Free) cs
+pub free_list : (cs : List Comparator) → Each (InComparator Free) cs
 free_list [] = tt
 free_list (c ∷ cs) = (free_comparator c, free_list cs)
 
@@ -91,7 +91,7 @@ operator_under = wordy list_operator_described
 component_under : (f : Flavour) → IsUnder (IsComponent f) (plain (rule.component f))
 component_under f = under (loose_digits (strictness_of f)) (component_described Free f) free_component
 
-bare_partial_under : (f : Flavour) → IsUnder (IsBarePartial f) (plain (rule.bare_partial f))
+pub bare_partial_under : (f : Flavour) → IsUnder (IsBarePartial f) (plain (rule.bare_partial f))
 bare_partial_under f = under (loose_digits (strictness_of f)) (bare_partial_described Free f) free_partial
 
 partial_under : (f : Flavour) → IsUnder (IsPartial f) (plain (rule.partial f))
@@ -225,7 +225,7 @@ abbrev pub is_bare_byte : ℕ → Bool
 is_bare_byte x = is_qualifier_byte x || (x == 42)
 
 -- the bytes of a partial version
-abbrev bare_bytes : Bytes
+abbrev pub bare_bytes : Bytes
 bare_bytes = (42, 44) ∷ ((45, 47) ∷ ((48, 58) ∷ ((65, 91) ∷ ((97, 123) ∷ []))))
 
 going : (f : Flavour) → is_each (is_going bare_bytes) (plain (rule.comparator f)) ≡ true

@@ -8,20 +8,18 @@ use Rattle.semver_req.specs.Partials.{strictness_of}
 use Rattle.semver_req.specs.Viable.{IsPart, IsViablePrefix}
 use Rattle.semver_req.specs.declared.common.values.Flavour.{Flavour}
 use Rattle.semver_req.specs.declared.common.values.Flavour.TheVariants.{Npm, Normal, Specifier}
-use Rattle.semver_req.specs.declared.error_places.Sizes.TheVariants as sizes
 use Rattle.semver_req.specs.declared.error_places.expected.Kind.{Kind}
 use Rattle.semver_req.proofs.Endings.{viable_by}
-use Rattle.semver_req.proofs.GrammarTexts.{InComparator, Numbers, are_numbers, exchanged, part_described}
+use Rattle.semver_req.proofs.GrammarFacts.{Free, free_list}
+use Rattle.semver_req.proofs.GrammarTexts.{AreSizes, InComparator, Numbers, are_numbers, exchanged, part_described}
 use Rattle.semver_req.proofs.Grammars as rule
 use Rattle.semver_req.proofs.RuleTexts.{Each, ends_by}
 use Rattle.semver_req.proofs.Rules.{Bytes, has}
 use Rattle.semver_req.proofs.States.{State, after, alike, are_alike, each, is_each}
 use Rattle.semver_req.proofs.Symbols.{Says, SaidBy, exchange, is_ended, sign}
-use Rattle.semver_req.proofs.ViableParts.{NumberIs, any_list, sizes_are}
 
--- numbers of any size
-abbrev N : ℕ → Type 0
-N = NumberIs sizes.Any
+any_size : AreSizes Free
+any_size = record { one = tt; shorter = λ x p u h. tt }
 
 -- letters but `v`, `x` and `X`
 abbrev letters : Bytes
@@ -68,14 +66,14 @@ module _ (f : Flavour) where
     follows : (d e : ℕ) → d < sign → e < sign → has s d ≡ true → has s e ≡ true → (is_ascii_digit d ≡ true → is_ascii_digit e ≡ true)
         → (prefix : List ℕ) → IsViablePrefix (IsPart f) (prefix ++ (d ∷ [])) → IsViablePrefix (IsPart f) (prefix ++ (e ∷ []))
     follows d e below also in_d in_e digits prefix v =
-        by (exchange (are_numbers (strictness_of f) (sizes_are sizes.Any)) part_endings (rule.part f) ended_there d e below also (λ p u h. exchanged d e u (λ n. tt) (strictness_of f) digits p h) (λ b u h. alike m s (rule.part f) same d e in_d in_e b u h) prefix v.more
-        ((part_described N f).into (prefix ++ (d ∷ v.more)) v.value (subst (λ t. IsPart f t v.value) (append_assoc prefix (d ∷ []) v.more) v.stands) (any_list v.value)))
+        by (exchange (are_numbers (strictness_of f) any_size) part_endings (rule.part f) ended_there d e below also (λ p u h. exchanged d e u (λ n. tt) (strictness_of f) digits p h) (λ b u h. alike m s (rule.part f) same d e in_d in_e b u h) prefix v.more
+        ((part_described Free f).into (prefix ++ (d ∷ v.more)) v.value (subst (λ t. IsPart f t v.value) (append_assoc prefix (d ∷ []) v.more) v.stands) (free_list v.value)))
       where
-        by : Says (Numbers N f) (rule.part f) (prefix ++ (e ∷ v.more)) ⊎ SaidBy (Numbers N f) (rule.part f) (prefix ++ (e ∷ [])) part_endings → IsViablePrefix (IsPart f) (prefix ++ (e ∷ []))
+        by : Says (Numbers Free f) (rule.part f) (prefix ++ (e ∷ v.more)) ⊎ SaidBy (Numbers Free f) (rule.part f) (prefix ++ (e ∷ [])) part_endings → IsViablePrefix (IsPart f) (prefix ++ (e ∷ []))
         by (inl h) =
-            let w = (part_described N f).from (prefix ++ (e ∷ v.more)) h in
+            let w = (part_described Free f).from (prefix ++ (e ∷ v.more)) h in
             record { more = v.more; value = w.0; is_text = v.is_text; stands = subst (λ t. IsPart f t w.0) (sym (append_assoc prefix (e ∷ []) v.more)) w.1 }
-        by (inr h) = viable_by (IsPart f) (Each (InComparator N)) (IsPart f) (λ t cs k i. k) (prefix ++ (e ∷ [])) part_endings refl (ends_by (part_described N f) (prefix ++ (e ∷ [])) part_endings h)
+        by (inr h) = viable_by (IsPart f) (Each (InComparator Free)) (IsPart f) (λ t cs k i. k) (prefix ++ (e ∷ [])) part_endings refl (ends_by (part_described Free f) (prefix ++ (e ∷ [])) part_endings h)
 
   digit_follows : (d e : ℕ) → is_ascii_digit d ≡ true → is_ascii_digit e ≡ true → (prefix : List ℕ) → IsViablePrefix (IsPart f) (prefix ++ (d ∷ [])) → IsViablePrefix (IsPart f) (prefix ++ (e ∷ []))
   digit_follows d e h k = follows 48 rule.digits digits_alike d e (low d h) (low e k) (there d h) (there e k) (λ i. k)

@@ -34,6 +34,7 @@ use Rattle.semver_req.specs.Viable.{HasPiece, HasRange, IsAnyPiece, IsPart, IsPi
 use Rattle.semver_req.specs.declared.error_places.Sizes.{Sizes}
 use Rattle.semver_req.specs.declared.error_places.Sizes.TheVariants.{Any, Fitting}
 use Rattle.semver_req.proofs.Endings.{ascii_text, filled_ended, piece_endings, range_begun, range_ended, range_endings, viable_by, whitespace_front}
+use Rattle.semver_req.proofs.GrammarFacts.{free_list}
 use Rattle.semver_req.proofs.GrammarTexts.{AreSizes, InComparator, InComponent, InPartial, filled_piece, front_below}
 use Rattle.semver_req.proofs.RuleTexts.{Each, EndsBy}
 use Rattle.semver_req.proofs.States.{Starts}
@@ -66,24 +67,6 @@ sizes_are Fitting = record { one = grind (arith, nat_tests); shorter = λ x p u 
 -- the numbers of each comparator are of these sizes
 abbrev pub AreOf : Sizes → List Comparator → Type 0
 AreOf sizes cs = Each (InComparator (NumberIs sizes)) cs
-
-any_component : (x : XRange) → InComponent (NumberIs Any) x
-any_component Wildcard = tt
-any_component (Val n) = tt
-
-any_partial : (p : Partial) → InPartial (NumberIs Any) p
-any_partial p = (any_component p.major, (any_component p.minor, any_component p.patch))
-
-any_comparator : (c : Comparator) → InComparator (NumberIs Any) c
-any_comparator (Tilde p) = any_partial p
-any_comparator (Caret p) = any_partial p
-any_comparator (OfPrimitive kind p) = any_partial p
-any_comparator (Bare p) = any_partial p
-any_comparator (Hyphen p q) = (any_partial p, any_partial q)
-
-pub any_list : (cs : List Comparator) → AreOf Any cs
-any_list [] = tt
-any_list (c ∷ cs) = (any_comparator c, any_list cs)
 
 component_in : (x : XRange) → component_fits x ≡ true → InComponent (NumberIs Fitting) x
 component_in Wildcard h = tt
@@ -127,7 +110,7 @@ in_list (c ∷ cs) h = and_from (numbers_fit c) (list_all numbers_fit cs) (in_co
 
 module _ (R : List ℕ → List Comparator → Type 0) {text : List ℕ} (cs : List Comparator) where
   unsized : (sizes : Sizes) → Sized sizes R text cs → R text cs × AreOf sizes cs
-  unsized Any h = (h, any_list cs)
+  unsized Any h = (h, free_list cs)
   unsized Fitting h = (h.0, list_in cs h.1)
 
   sized : (sizes : Sizes) → R text cs → AreOf sizes cs → Sized sizes R text cs
@@ -192,7 +175,7 @@ front_range sizes {text} {rest} {written} {b} {c} e g f = (forward, backward)
     it = comparator_of written.operator f.partial
 
     admitted : (s : Sizes) → admits s written.partial ≡ true → AreOf s (it ∷ [])
-    admitted Any h = any_list (it ∷ [])
+    admitted Any h = free_list (it ∷ [])
     admitted Fitting h = (comparator_in it (comparator_all written.operator f.partial ∙ admitted_fits f.partial written.partial f.seen h), tt)
 
     admitting : (s : Sizes) → AreOf s (it ∷ []) → admits s written.partial ≡ true
@@ -232,7 +215,7 @@ range_with sizes front text e never v = let k = unsized (IsPart Specifier) v.val
 -- ---- pieces
 
 of_sizes : (sizes : Sizes) (cs : List Comparator) → list_all numbers_fit cs ≡ true → AreOf sizes cs
-of_sizes Any cs h = any_list cs
+of_sizes Any cs h = free_list cs
 of_sizes Fitting cs h = list_in cs h
 
 pub good_piece : (f : Flavour) (sizes : Sizes) (followed : Bool) (text : List ℕ) {range : VersionRange} → IsPieceRead f followed text (read.Range range) → IsTrue true ↔ HasPiece f sizes followed text

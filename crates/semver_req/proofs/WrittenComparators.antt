@@ -1,5 +1,5 @@
 -- The text of a range: comparators that parse back unchanged in npm's and the normalized grammar.
-use Rattle.std.proofs.Common.{◌≡◌, ◌<◌, ◌^◌, ◌+◌, ℕ, Bool, true, false, List, [], ◌∷◌, ◌++◌, length, Some, None, refl, sym, ap, ◌∙◌, arith, append-nil, ◌==◌, length-append, ◌&&◌, codes, if◌then◌else◌, nat_lt, decimal}
+use Rattle.std.proofs.Common.{◌≡◌, ◌<◌, ◌^◌, ◌+◌, ℕ, Bool, true, false, List, [], ◌∷◌, ◌++◌, length, Some, None, refl, sym, ap, ◌∙◌, arith, append-nil, length-append, ◌&&◌, codes, if◌then◌else◌, nat_lt, decimal}
 use Rattle.std.specs.List.{list_all}
 use Rattle.std.proofs.lemmas.Bool.{and_from, and_parts, eqb-true, lt-ltb}
 use Rattle.std.proofs.lemmas.Bool.Decides.{nat_tests}
@@ -14,7 +14,6 @@ use Rattle.semver_base.specs.VersionText.{IsWritable, prefixed, version_text}
 use Rattle.semver_base.specs.declared.partial.Partial.{Partial}
 use Rattle.semver_base.specs.declared.partial.PrimitiveKind.{PrimitiveKind}
 use Rattle.semver_base.specs.declared.partial.PrimitiveKind.TheVariants.{GreaterThan, LessThan, GreaterThanOrEqual, LessThanOrEqual}
-use Rattle.semver_base.specs.declared.partial.XRange.{XRange}
 use Rattle.semver_base.specs.declared.partial.XRange.TheVariants.{Wildcard, Val}
 use Rattle.semver_base.specs.declared.range.RangeBound.{RangeBound}
 use Rattle.semver_base.specs.declared.range.RangeBound.TheVariants as bound
@@ -22,8 +21,8 @@ use Rattle.semver_base.specs.declared.range.VersionBoundKind.{VersionBoundKind}
 use Rattle.semver_base.specs.declared.range.VersionBoundKind.TheVariants as kind
 use Rattle.semver_base.specs.declared.range.VersionRange.{VersionRange}
 use Rattle.semver_base.specs.declared.version.Version.{Version}
-use Rattle.semver_base.specs.ByteLaws.{MadeOf, joined_made, list_all-append, mapped_made, prefixed_made, optional_made}
-use Rattle.semver_base.specs.SolidLaws.{is_solid_byte, number_made, qualifier_made, some_text}
+use Rattle.semver_base.specs.ByteLaws.{MadeOf, list_all-append}
+use Rattle.semver_base.specs.SolidLaws.{is_solid_byte, some_text}
 use Rattle.semver_base.specs.ShortLaws.{short_is}
 use Rattle.semver_base.specs.WrittenLaws.{after, follow, no_digit_written, number_written, qualifier_written}
 use Rattle.semver_req.specs.Comparators.{IsComparator, IsLed, fits, no_more, numbers}
@@ -31,7 +30,9 @@ use Rattle.semver_req.specs.Partials.{IsComponent, IsPartial, IsBarePartial, IsT
 use Rattle.semver_req.specs.declared.common.values.Flavour.{Flavour}
 use Rattle.semver_req.specs.declared.common.values.Flavour.TheVariants.{Npm, Normal, Specifier}
 use Rattle.semver_req.proofs.Partials.{no_whitespace}
-use Rattle.semver_req.proofs.GrammarFacts.{partial_some}
+use Rattle.semver_req.proofs.GrammarFacts.{bare_bytes, bare_partial_under, partial_some}
+use Rattle.semver_req.proofs.RuleFacts.{made_in}
+use Rattle.semver_req.proofs.Rules.{has}
 
 -- ---- partial versions
 
@@ -110,21 +111,11 @@ module _ (v : Version) (h : IsWritable v) where
 
 -- ---- their bytes
 
-star_solid : (b : ℕ) → (b == 42) ≡ true → is_solid_byte b ≡ true
-star_solid b h = grind (arith, nat_tests)
-
-component_made : MadeOf (IsComponent Normal) is_solid_byte
-component_made = record { made = go }
-  where
-    go : (text : List ℕ) (v : XRange) → IsComponent Normal text v → list_all is_solid_byte text ≡ true
-    go text Wildcard h = rw h.1.text_is (and_from (is_solid_byte h.0) true (star_solid h.0 h.1.passes) refl)
-    go text (Val n) h = number_made.made text n h
-
-third_made : MadeOf (IsThird Normal) is_solid_byte
-third_made = prefixed_made (joined_made component_made qualifier_made) 46 refl
-
 partial_made : MadeOf (IsBarePartial Normal) is_solid_byte
-partial_made = mapped_made (joined_made component_made (optional_made (prefixed_made (joined_made component_made (optional_made third_made)) 46 refl)))
+partial_made = made_in (bare_partial_under Normal) is_solid_byte bare_bytes solid refl
+  where
+    solid : (x : ℕ) → has bare_bytes x ≡ true → is_solid_byte x ≡ true
+    solid x h = grind (arith, nat_tests)
 
 -- ---- comparators
 
