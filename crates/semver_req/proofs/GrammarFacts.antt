@@ -10,7 +10,6 @@ use Rattle.semver_base.specs.GrammarLaws.{Apart, NonEmpty}
 use Rattle.semver_base.specs.ByteLaws.{BeginsBy, Disjoint, GoesBy, begins_from_made, goes_from_made}
 use Rattle.semver_base.specs.Lexical.{IsByte, IsSomeWhitespace, IsWhitespace}
 use Rattle.semver_base.specs.ListLaws.{IsListing}
-use Rattle.semver_base.specs.TokenLaws.{is_qualifier_byte}
 use Rattle.semver_base.specs.ValueLaws.{Never, all_second}
 use Rattle.semver_base.specs.declared.lexical.values.Strictness.TheVariants.{Loose}
 use Rattle.semver_base.specs.declared.partial.Partial.{Partial}
@@ -221,21 +220,12 @@ whitespace_apart f = apart_from whitespace_under (partial_under f) (flavours (λ
 
 -- ---- comparators
 
-abbrev pub is_bare_byte : ℕ → Bool
-is_bare_byte x = is_qualifier_byte x || (x == 42)
-
 -- the bytes of a partial version
 abbrev pub bare_bytes : Bytes
 bare_bytes = (42, 44) ∷ ((45, 47) ∷ ((48, 58) ∷ ((65, 91) ∷ ((97, 123) ∷ []))))
 
 going : (f : Flavour) → is_each (is_going bare_bytes) (plain (rule.comparator f)) ≡ true
 going = flavours (λ f. is_each (is_going bare_bytes) (plain (rule.comparator f)) ≡ true) refl refl refl
-
-pub comparator_goes : (f : Flavour) → GoesBy (IsComparator f) is_bare_byte
-comparator_goes f = goes_in (comparator_under f) is_bare_byte bare_bytes pass (going f)
-  where
-    pass : (x : ℕ) → has bare_bytes x ≡ true → is_bare_byte x ≡ true
-    pass x h = grind (arith, nat_tests)
 
 pub comparator_some : (f : Flavour) → NonEmpty (IsComparator f)
 comparator_some f = some_by (comparator_under f) (flavours (λ f. nullable (plain (rule.comparator f)) ≡ false) refl refl refl f)

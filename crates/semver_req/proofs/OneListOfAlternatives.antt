@@ -32,7 +32,7 @@ use Rattle.semver_req.specs.declared.error_places.pieces.Parsed.{Parsed}
 use Rattle.semver_req.specs.declared.error_places.pieces.Parsed.TheVariants.{Range, Invalid}
 use Rattle.semver_req.specs.declared.range_set_or_tag.pieces.RangeOrInvalid.TheVariants as read
 use Rattle.semver_req.proofs.ComparatorReadings.{comparator_one}
-use Rattle.semver_req.proofs.GrammarFacts.{comparator_goes}
+use Rattle.semver_req.proofs.GrammarFacts.{listing}
 use Rattle.semver_req.proofs.OneOutcome.{cut_one, cut_some, fits_or_not, no_cut, none_some, some_or_none, trimmed_one, whole_or_not}
 use Rattle.semver_req.proofs.OneReason.{bound_no_fit, front_fits, number_no_fit, piece_reason, read_one}
 use Rattle.semver_req.proofs.PieceReadings.{hyphen_no_second}
@@ -186,7 +186,7 @@ range_or_rejected p f (front_number {c = d} q lacks) = fits_or_not p q f (number
 range_or_rejected p f (front_bound {c = d} q every lacks) = fits_or_not p q f (bound_no_fit d every lacks)
 
 pub whole_text : {text : List ℕ} {c : Comparator} → IsSpecifierRange text c → IsLongest IsSpecifierRange text c []
-whole_text {text} h = rw append-nil at (in_place (comparator_one Specifier) (comparator_goes Specifier) text [] h tt)
+whole_text {text} h = rw append-nil at (in_place (comparator_one Specifier) (listing Specifier).item_goes text [] h tt)
 
 -- ---- the error of an alternative
 

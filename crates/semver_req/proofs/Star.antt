@@ -17,7 +17,7 @@ use Rattle.semver_req.specs.declared.common.values.Flavour.{Flavour}
 use Rattle.semver_req.specs.declared.range_set_or_tag.RangeSetOrTag.TheVariants as inner
 use Rattle.semver_req.specs.declared.common.values.Flavour.TheVariants.{Npm, Normal, Specifier}
 use Rattle.semver_req.proofs.ComparatorReadings.{comparator_one}
-use Rattle.semver_req.proofs.GrammarFacts.{comparator_goes}
+use Rattle.semver_req.proofs.GrammarFacts.{listing}
 use Rattle.semver_req.proofs.WrittenSets.{cut_outcome, set_outcome, set_trimmed}
 
 -- ---- in npm's and the normalized grammar it is the canonical form of everything
@@ -45,7 +45,7 @@ star_read = that (record {
 })
 
 star_longest : IsLongest IsSpecifierRange (codes "*") (Bare any_partial) []
-star_longest = in_place (comparator_one Specifier) (comparator_goes Specifier) (codes "*") [] star_read tt
+star_longest = in_place (comparator_one Specifier) (listing Specifier).item_goes (codes "*") [] star_read tt
 
 pub star_alternatives : (f : Flavour) → IsCutting f → IsCutReading f (codes "*") (inner.RangeSet (record { 0 = any_set }))
 star_alternatives f npm = record { outcome = Ranges (shortest_tree any_set); is_outcome = cut_outcome Npm npm any_set writable; is_read = refl }
