@@ -17,7 +17,7 @@ use Rattle.semver_req.specs.declared.common.values.Flavour.TheVariants.{Npm, Nor
 use Rattle.semver_req.proofs.Grammars as rule
 use Rattle.semver_req.proofs.GrammarTexts.{AreSizes, InComparator, IsSurrounded, Numbers, are_numbers, below, filled_described, part_described, surrounded_described}
 use Rattle.semver_req.proofs.RuleTexts.{Any, Describes, Each, EndsBy, ends_by}
-use Rattle.semver_req.proofs.States.{Starts, is_each, each}
+use Rattle.semver_req.proofs.States.{Starts, failing, each}
 use Rattle.semver_req.proofs.Symbols.{AreNumbers, SaidBy, begun, ended, is_ended}
 use Rattle.semver_req.proofs.WhitespaceTexts.{whitespace_described}
 
@@ -63,7 +63,7 @@ whitespace_front p u s h = go (ends_by described p ([] ∷ []) (ended any_number
 abbrev pub piece_endings : List (List ℕ)
 piece_endings = [] ∷ codes "1" ∷ codes "&" ∷ codes " 1" ∷ []
 
-filled_checked : (f : Flavour) → IsCutting f → is_each (is_ended piece_endings) (rule.filled f) ≡ true
+filled_checked : (f : Flavour) → IsCutting f → failing (is_ended piece_endings) (rule.filled f) ≡ []
 filled_checked Npm npm = refl
 filled_checked Normal normal = refl
 filled_checked Specifier cuts = elim cuts [ ]
@@ -77,7 +77,7 @@ module _ (N : ℕ → Type 0) (sizes : AreSizes N) where
 abbrev pub range_endings : List (List ℕ)
 range_endings = [] ∷ codes "1" ∷ []
 
-range_checked : is_each (is_ended range_endings) (rule.part Specifier) ≡ true
+range_checked : failing (is_ended range_endings) (rule.part Specifier) ≡ []
 range_checked = refl
 
 module _ (N : ℕ → Type 0) (sizes : AreSizes N) where
@@ -95,7 +95,7 @@ module _ (N : ℕ → Type 0) (sizes : AreSizes N) where
 abbrev pub version_endings : List (List ℕ)
 version_endings = [] ∷ codes "1" ∷ codes "1.1" ∷ codes "1.1.1" ∷ codes ".1" ∷ codes ".1.1" ∷ []
 
-version_checked : is_each (is_ended version_endings) rule.surrounded_version ≡ true
+version_checked : failing (is_ended version_endings) rule.surrounded_version ≡ []
 version_checked = refl
 
 pub version_ended : (p u : List ℕ) → Starts u → (v : Version) → IsSurrounded (p ++ u) v → AllNumbersFit v → EndsBy IsSurrounded AllNumbersFit p version_endings

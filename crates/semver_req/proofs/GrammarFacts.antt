@@ -27,7 +27,7 @@ use Rattle.semver_req.proofs.RuleFacts.{IsUnder, apart_from, begins_in, goes_in,
 use Rattle.semver_req.proofs.RuleLaws.{made, overlap_there}
 use Rattle.semver_req.proofs.RuleTexts.{Any, Describes, Each, after_described, before_described, bytes, either_described, listed_described, prefixed_described}
 use Rattle.semver_req.proofs.Rules.{Bytes, Rule, all_bytes, alt, byte, firsts, has, Holds, is_void, letter, many, Many, minus, no_more, nullable, one_more, optional, overlap, seq, steps}
-use Rattle.semver_req.proofs.States.{is_each}
+use Rattle.semver_req.proofs.States.{failing}
 use Rattle.semver_req.proofs.WhitespaceTexts.{some_whitespace_described, whitespace_described}
 
 -- what is so for each of the three grammars
@@ -171,7 +171,7 @@ component_passes : (x : ℕ) → has component_bytes x ≡ true → is_component
 component_passes x h = grind (arith, nat_tests)
 
 pub component_goes : (f : Flavour) → GoesBy (IsComponent f) is_ascii_digit
-component_goes f = goes_in (component_under f) is_ascii_digit rule.digits pass (flavours (λ f. is_each (is_going rule.digits) (plain (rule.component f)) ≡ true) refl refl refl f)
+component_goes f = goes_in (component_under f) is_ascii_digit rule.digits pass (flavours (λ f. failing (is_going rule.digits) (plain (rule.component f)) ≡ []) refl refl refl f)
   where
     pass : (x : ℕ) → has rule.digits x ≡ true → is_ascii_digit x ≡ true
     pass x h = grind (arith, nat_tests)
@@ -213,10 +213,10 @@ pub primitive_kind_whitespace : Apart IsPrimitiveKind IsSomeWhitespace
 primitive_kind_whitespace = apart_from kind_under some_whitespace_under refl
 
 pub primitive_kind_apart : (f : Flavour) → Apart IsPrimitiveKind (After IsWhitespace (IsPartial f))
-primitive_kind_apart f = apart_from kind_under (spaced_under f) (flavours (λ f. is_each (is_apart (firsts (steps (plain (seq rule.whitespace (rule.partial f)))))) (plain rule.kind) ≡ true) refl refl refl f)
+primitive_kind_apart f = apart_from kind_under (spaced_under f) (flavours (λ f. failing (is_apart (firsts (steps (plain (seq rule.whitespace (rule.partial f)))))) (plain rule.kind) ≡ []) refl refl refl f)
 
 pub whitespace_apart : (f : Flavour) → Apart IsWhitespace (IsPartial f)
-whitespace_apart f = apart_from whitespace_under (partial_under f) (flavours (λ f. is_each (is_apart (firsts (steps (plain (rule.partial f))))) (plain rule.whitespace) ≡ true) refl refl refl f)
+whitespace_apart f = apart_from whitespace_under (partial_under f) (flavours (λ f. failing (is_apart (firsts (steps (plain (rule.partial f))))) (plain rule.whitespace) ≡ []) refl refl refl f)
 
 -- ---- comparators
 
@@ -224,8 +224,8 @@ whitespace_apart f = apart_from whitespace_under (partial_under f) (flavours (λ
 abbrev pub bare_bytes : Bytes
 bare_bytes = (42, 44) ∷ ((45, 47) ∷ ((48, 58) ∷ ((65, 91) ∷ ((97, 123) ∷ []))))
 
-going : (f : Flavour) → is_each (is_going bare_bytes) (plain (rule.comparator f)) ≡ true
-going = flavours (λ f. is_each (is_going bare_bytes) (plain (rule.comparator f)) ≡ true) refl refl refl
+going : (f : Flavour) → failing (is_going bare_bytes) (plain (rule.comparator f)) ≡ []
+going = flavours (λ f. failing (is_going bare_bytes) (plain (rule.comparator f)) ≡ []) refl refl refl
 
 pub comparator_some : (f : Flavour) → NonEmpty (IsComparator f)
 comparator_some f = some_by (comparator_under f) (flavours (λ f. nullable (plain (rule.comparator f)) ≡ false) refl refl refl f)
@@ -234,13 +234,13 @@ pub any_some : (f : Flavour) → NonEmpty (IsPartial f)
 any_some f = some_by (partial_under f) (flavours (λ f. nullable (plain (rule.partial f)) ≡ false) refl refl refl f)
 
 pub tilde_caret : (f : Flavour) → Never (IsTildeOf f) (IsCaretOf f)
-tilde_caret f = never_both (tilde_under f) (caret_under f) (flavours (λ f. is_each one_mark (marked (plain (rule.tilde f)) (plain (rule.caret f))) ≡ true) refl refl refl f)
+tilde_caret f = never_both (tilde_under f) (caret_under f) (flavours (λ f. failing one_mark (marked (plain (rule.tilde f)) (plain (rule.caret f))) ≡ []) refl refl refl f)
 
 pub primitive_bare : (f : Flavour) → Never (IsOfPrimitive f) (IsBare f)
-primitive_bare f = never_both (primitive_under f) (bare_under f) (flavours (λ f. is_each one_mark (marked (plain (rule.primitive f)) (plain (rule.partial f))) ≡ true) refl refl refl f)
+primitive_bare f = never_both (primitive_under f) (bare_under f) (flavours (λ f. failing one_mark (marked (plain (rule.primitive f)) (plain (rule.partial f))) ≡ []) refl refl refl f)
 
 pub operators_others : (f : Flavour) → Never (Either (IsTildeOf f) (IsCaretOf f)) (Either (IsOfPrimitive f) (IsBare f))
-operators_others f = never_both (operators_under f) (others_under f) (flavours (λ f. is_each one_mark (marked (plain (alt (rule.tilde f) (rule.caret f))) (plain (alt (rule.primitive f) (rule.partial f)))) ≡ true) refl refl refl f)
+operators_others f = never_both (operators_under f) (others_under f) (flavours (λ f. failing one_mark (marked (plain (alt (rule.tilde f) (rule.caret f))) (plain (alt (rule.primitive f) (rule.partial f)))) ≡ []) refl refl refl f)
 
 pub operators_bare : (f : Flavour) → Never (Either (IsTildeOf f) (IsCaretOf f)) (IsBare f)
 operators_bare f = record { both = λ t v w h k. (operators_others f).both t v w h (that k) }

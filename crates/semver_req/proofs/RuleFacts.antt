@@ -9,7 +9,7 @@ use Rattle.semver_base.specs.ValueLaws.{Never}
 use Rattle.semver_req.proofs.Rules.{Bytes, has, minus, is_void, overlap, all_bytes, Rule, empty, byte, seq, alt, many, unless, Many, no_more, one_more, Holds, nullable, steps, firsts, is_made, letter, some}
 use Rattle.semver_req.proofs.RuleLaws.{firsts_there, made, made_all, overlap_there, minus_into, nullable_into, steps_into, within}
 use Rattle.semver_req.proofs.RuleTexts.{Describes, alt_says, bytes, many_says, none_spelled, one_has, said_ground, seq_says}
-use Rattle.semver_req.proofs.States.{State, after, after_into, all_into, all_steps, each, is_each, some_into, some_nullable}
+use Rattle.semver_req.proofs.States.{State, after, after_into, all_into, all_steps, each, failing, some_into, some_nullable}
 use Rattle.semver_req.proofs.Symbols.{sign, Spells, done, a_byte, a_number, Says}
 
 -- ---- digits for each number
@@ -105,7 +105,7 @@ continues r t x more h k =
 abbrev pub is_going : Bytes → State → Bool
 is_going s st = not (some_nullable st) || is_void (minus (firsts (all_steps st)) s)
 
-goes_on : (r : Rule) (s : Bytes) → is_each (is_going s) r ≡ true → (t : List ℕ) (x : ℕ) → Continues r x t → has s x ≡ true
+goes_on : (r : Rule) (s : Bytes) → failing (is_going s) r ≡ [] → (t : List ℕ) (x : ℕ) → Continues r x t → has s x ≡ true
 goes_on r s e t x c =
     let st = after (r ∷ []) t in
     elim (or_cases (not (some_nullable st)) (is_void (minus (firsts (all_steps st)) s)) (each (is_going s) r e t)) [
@@ -117,7 +117,7 @@ goes_on r s e t x c =
 abbrev pub is_apart : Bytes → State → Bool
 is_apart s st = not (some_nullable st && overlap (firsts (all_steps st)) s)
 
-never_on : (r : Rule) (s : Bytes) → is_each (is_apart s) r ≡ true → (t : List ℕ) (x : ℕ) → Continues r x t → has s x ≡ true → ⊥
+never_on : (r : Rule) (s : Bytes) → failing (is_apart s) r ≡ [] → (t : List ℕ) (x : ℕ) → Continues r x t → has s x ≡ true → ⊥
 never_on r s e t x c h =
     let st = after (r ∷ []) t in
     let first = firsts (all_steps st) in
@@ -130,7 +130,7 @@ marked a b = alt (seq a (letter 257)) (seq b (letter 258))
 abbrev pub one_mark : State → Bool
 one_mark st = not (has (firsts (all_steps st)) 257 && has (firsts (all_steps st)) 258)
 
-pub no_common : (a b : Rule) → is_each one_mark (marked a b) ≡ true → (t : List ℕ) → Holds a t → Holds b t → ⊥
+pub no_common : (a b : Rule) → failing one_mark (marked a b) ≡ [] → (t : List ℕ) → Holds a t → Holds b t → ⊥
 no_common a b e t h k =
     let st = after (marked a b ∷ []) t in
     let first = firsts_there (all_steps st) 257 [] (all_into st 257 [] (after_into (marked a b ∷ []) t (257 ∷ []) (inl (inl (t, 257 ∷ [], refl, h, (257, refl, one_has 257)))))) in
@@ -154,13 +154,13 @@ module _ {V : Type 0} {A : List ℕ → V → Type 0} {r : Rule} (a : IsUnder A 
   pub made_in : (p : ℕ → Bool) (s : Bytes) → ((x : ℕ) → has s x ≡ true → p x ≡ true) → is_made r s ≡ true → MadeOf A p
   made_in p s w e = record { made = λ t v h. list_all-wider (has s) p w t (made r s e t (a.into t v h)) }
 
-  pub goes_in : (p : ℕ → Bool) (s : Bytes) → ((x : ℕ) → has s x ≡ true → p x ≡ true) → is_each (is_going s) r ≡ true → GoesBy A p
+  pub goes_in : (p : ℕ → Bool) (s : Bytes) → ((x : ℕ) → has s x ≡ true → p x ≡ true) → failing (is_going s) r ≡ [] → GoesBy A p
   goes_in p s w e = record { goes = λ x o. w x (goes_on r s e o.front x (continues r o.front x o.more (a.into o.front o.short_value o.short) (a.into (o.front ++ (x ∷ o.more)) o.long_value o.long))) }
 
   module _ {W : Type 0} {B : List ℕ → W → Type 0} {q : Rule} (b : IsUnder B q) where
     -- where a text of A goes on, no text of B begins
-    pub apart_from : is_each (is_apart (firsts (steps q))) r ≡ true → Apart A B
+    pub apart_from : failing (is_apart (firsts (steps q))) r ≡ [] → Apart A B
     apart_from e = record { apart = λ x o n. never_on r (firsts (steps q)) e o.front x (continues r o.front x o.more (a.into o.front o.short_value o.short) (a.into (o.front ++ (x ∷ o.more)) o.long_value o.long)) (firsts_there (steps q) x n.more (steps_into q x n.more (b.into (x ∷ n.more) n.value n.stands))) }
 
-    pub never_both : is_each one_mark (marked r q) ≡ true → Never A B
+    pub never_both : failing one_mark (marked r q) ≡ [] → Never A B
     never_both e = record { both = λ t v w h k. no_common r q e t (a.into t v h) (b.into t w k) }

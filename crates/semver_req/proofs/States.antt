@@ -1,6 +1,6 @@
 -- States of a rule's automaton: the rules of what may stand behind a prefix, its partial derivatives. There are finitely many states, so a check of
 -- all of them is a check of all prefixes.
-use Rattle.std.proofs.Common.{◌≡◌, ◌≤◌, ◌<◌, ℕ, zero, suc, Bool, true, false, not, ◌&&◌, ◌||◌, List, [], ◌∷◌, ◌++◌, ◌⊎◌, inl, inr, leb, ltb, eqb, max, cond, refl, sym, ap, ◌∙◌, append-nil, arith}
+use Rattle.std.proofs.Common.{◌≡◌, ◌≤◌, ◌<◌, ℕ, zero, suc, Bool, true, false, not, ◌&&◌, ◌||◌, List, [], ◌∷◌, ◌++◌, ◌⊎◌, inl, inr, leb, ltb, eqb, max, cond, refl, sym, ap, ◌∙◌, append-nil, arith, reverse}
 use Rattle.std.specs.List.{list_all}
 use Rattle.std.proofs.lemmas.Bool.{and_parts, both_ways, or_cases, or_left, or_right, not_from_true, leb-true, leb-false, ltb-true, ltb-false, le-leb, lt-leb, lt-ltb, le-ltb, eqb-true, eq-eqb}
 use Rattle.semver_req.proofs.Rules.{Bytes, has, minus, is_void, Rule, Holds, nullable, Steps, steps, Goes, firsts, same_rule}
@@ -316,13 +316,48 @@ abbrev each_by : List State → (State → Bool) → Rule → Bool
 each_by ds f r = in_states (r ∷ []) ds && (are_closed ds && list_all f ds)
 
 -- the check passes at each state
-abbrev pub is_each : (State → Bool) → Rule → Bool
+abbrev is_each : (State → Bool) → Rule → Bool
 is_each f r = each_by (states_of r) f r
 
-pub each : (f : State → Bool) (r : Rule) → is_each f r ≡ true → (p : List ℕ) → f (after (r ∷ []) p) ≡ true
+-- a prefix, last byte first, and what may stand behind it
+abbrev Path : Type 0
+Path = List ℕ × State
+
+abbrev longer_paths : Steps → List ℕ → List ℕ → List Path
+longer_paths l p [] = []
+longer_paths l p (c ∷ cs) = (c ∷ p, derived l c) ∷ longer_paths l p cs
+
+-- the shortest prefix at whose state the check fails, by a search of so many steps
+abbrev search_failing : ℕ → (State → Bool) → List Path → List State → List (List ℕ)
+search_failing zero f todo seen = []
+search_failing (suc n) f [] seen = []
+search_failing (suc n) f (p ∷ todo) seen = elim (in_states p.1 seen) [
+  | true ↦ search_failing n f todo seen
+  | false ↦ elim (f p.1) [
+    | true ↦ search_failing n f (todo ++ ((0 ∷ p.0, derived (all_steps p.1) 0) ∷ longer_paths (all_steps p.1) p.0 (cuts (all_steps p.1)))) (p.1 ∷ seen)
+    | false ↦ reverse p.0 ∷ []
+  ]
+]
+
+abbrev none_if : Bool → List (List ℕ) → List (List ℕ)
+none_if true l = []
+none_if false [] = [] ∷ []
+none_if false (p ∷ l) = p ∷ l
+
+-- nothing if the check passes at each state, else a prefix at which it fails: where a fact is refused, the refusal prints it
+abbrev pub failing : (State → Bool) → Rule → List (List ℕ)
+failing f r = none_if (is_each f r) (search_failing 20000 f (([], r ∷ []) ∷ []) [])
+
+all_pass : (b : Bool) (l : List (List ℕ)) → none_if b l ≡ [] → b ≡ true
+all_pass true l h = refl
+all_pass false [] h = cc h
+all_pass false (p ∷ l) h = cc h
+
+pub each : (f : State → Bool) (r : Rule) → failing f r ≡ [] → (p : List ℕ) → f (after (r ∷ []) p) ≡ true
 each f r h p =
     let ds = states_of r in
-    let both = and_parts (in_states (r ∷ []) ds) (are_closed ds && list_all f ds) h in
+    let passes = all_pass (is_each f r) (search_failing 20000 f (([], r ∷ []) ∷ []) []) h in
+    let both = and_parts (in_states (r ∷ []) ds) (are_closed ds && list_all f ds) passes in
     let more = and_parts (are_closed ds) (list_all f ds) both.1 in
     state_found f ds (after (r ∷ []) p) (after_there ds more.0 p (r ∷ []) both.0) more.1
 
