@@ -263,23 +263,30 @@ steps_lead ds l = in_states (derived l 0) ds && list_all (λ c. in_states (deriv
 abbrev pub are_closed : List State → Bool
 are_closed ds = list_all (λ s. steps_lead ds (all_steps s)) ds
 
-abbrev pub each_next : Steps → List ℕ → List State → List State
-each_next l [] todo = todo
-each_next l (c ∷ cs) todo = derived l c ∷ each_next l cs todo
+-- a prefix, last byte first, and what may stand behind it
+abbrev pub Path : Type 0
+Path = List ℕ × State
 
-abbrev pub nexts : Steps → List State → List State
-nexts l todo = derived l 0 ∷ each_next l (cuts l) todo
+abbrev pub longer_paths : Steps → List ℕ → List ℕ → List Path
+longer_paths l p [] = []
+longer_paths l p (c ∷ cs) = (c ∷ p, derived l c) ∷ longer_paths l p cs
 
-abbrev pub reach : ℕ → List State → List State → List State
-reach zero todo seen = seen
-reach (suc n) [] seen = seen
-reach (suc n) (s ∷ todo) seen = elim (in_states s seen) [
-  | true ↦ reach n todo seen
-  | false ↦ reach n (nexts (all_steps s) todo) (s ∷ seen)
+-- the shortest prefix at whose state a check fails, or all states
+pub data Explored : Type 0 where
+  fails : List ℕ → Explored
+  passes : List State → Explored
+
+-- by a search of so many steps
+abbrev pub explore : ℕ → (State → Bool) → List Path → List State → Explored
+explore zero f todo seen = passes seen
+explore (suc n) f [] seen = passes seen
+explore (suc n) f (p ∷ todo) seen = elim (in_states p.1 seen) [
+  | true ↦ explore n f todo seen
+  | false ↦ elim (f p.1) [
+    | true ↦ let l = all_steps p.1 in explore n f (todo ++ longer_paths l p.0 (0 ∷ cuts l)) (p.1 ∷ seen)
+    | false ↦ fails (reverse p.0)
+  ]
 ]
-
-abbrev pub states_of : Rule → List State
-states_of r = reach 20000 ((r ∷ []) ∷ []) []
 
 same_state_is : (s d : State) → same_state s d ≡ true → s ≡ d
 same_state_is [] [] h = refl
@@ -315,51 +322,31 @@ module _ (ds : List State) (closed : are_closed ds ≡ true) where
 abbrev each_by : List State → (State → Bool) → Rule → Bool
 each_by ds f r = in_states (r ∷ []) ds && (are_closed ds && list_all f ds)
 
--- the check passes at each state
-abbrev is_each : (State → Bool) → Rule → Bool
-is_each f r = each_by (states_of r) f r
+abbrev none_if : Bool → List (List ℕ)
+none_if true = []
+none_if false = [] ∷ []
 
--- a prefix, last byte first, and what may stand behind it
-abbrev Path : Type 0
-Path = List ℕ × State
-
-abbrev longer_paths : Steps → List ℕ → List ℕ → List Path
-longer_paths l p [] = []
-longer_paths l p (c ∷ cs) = (c ∷ p, derived l c) ∷ longer_paths l p cs
-
--- the shortest prefix at whose state the check fails, by a search of so many steps
-abbrev search_failing : ℕ → (State → Bool) → List Path → List State → List (List ℕ)
-search_failing zero f todo seen = []
-search_failing (suc n) f [] seen = []
-search_failing (suc n) f (p ∷ todo) seen = elim (in_states p.1 seen) [
-  | true ↦ search_failing n f todo seen
-  | false ↦ elim (f p.1) [
-    | true ↦ search_failing n f (todo ++ ((0 ∷ p.0, derived (all_steps p.1) 0) ∷ longer_paths (all_steps p.1) p.0 (cuts (all_steps p.1)))) (p.1 ∷ seen)
-    | false ↦ reverse p.0 ∷ []
-  ]
-]
-
-abbrev none_if : Bool → List (List ℕ) → List (List ℕ)
-none_if true l = []
-none_if false [] = [] ∷ []
-none_if false (p ∷ l) = p ∷ l
+abbrev verdict : (State → Bool) → Rule → Explored → List (List ℕ)
+verdict f r (fails p) = p ∷ []
+verdict f r (passes ds) = none_if (each_by ds f r)
 
 -- nothing if the check passes at each state, else a prefix at which it fails: where a fact is refused, the refusal prints it
 abbrev pub failing : (State → Bool) → Rule → List (List ℕ)
-failing f r = none_if (is_each f r) (search_failing 20000 f (([], r ∷ []) ∷ []) [])
-
-all_pass : (b : Bool) (l : List (List ℕ)) → none_if b l ≡ [] → b ≡ true
-all_pass true l h = refl
-all_pass false [] h = cc h
-all_pass false (p ∷ l) h = cc h
+failing f r = verdict f r (explore 20000 f (([], r ∷ []) ∷ []) [])
 
 pub each : (f : State → Bool) (r : Rule) → failing f r ≡ [] → (p : List ℕ) → f (after (r ∷ []) p) ≡ true
-each f r h p =
-    let ds = states_of r in
-    let passes = all_pass (is_each f r) (search_failing 20000 f (([], r ∷ []) ∷ []) []) h in
-    let both = and_parts (in_states (r ∷ []) ds) (are_closed ds && list_all f ds) passes in
-    let more = and_parts (are_closed ds) (list_all f ds) both.1 in
-    state_found f ds (after (r ∷ []) p) (after_there ds more.0 p (r ∷ []) both.0) more.1
+each f r h p = go (explore 20000 f (([], r ∷ []) ∷ []) []) h
+  where
+    holds_if : (b : Bool) → none_if b ≡ [] → b ≡ true
+    holds_if true h = refl
+    holds_if false h = cc h
+
+    go : (e : Explored) → verdict f r e ≡ [] → f (after (r ∷ []) p) ≡ true
+    go (fails q) h = cc h
+    go (passes ds) h =
+        let both = and_parts (in_states (r ∷ []) ds) (are_closed ds && list_all f ds) (holds_if (each_by ds f r) h) in
+        let more = and_parts (are_closed ds) (list_all f ds) both.1 in
+        state_found f ds (after (r ∷ []) p) (after_there ds more.0 p (r ∷ []) both.0) more.1
 
 -- ---- prefixes that are cut where a character begins
 
