@@ -20,7 +20,7 @@ within_reported test other None true e h = λ v readable own. elim (cases_Bool (
 ]
 within_reported test other (Some v) false e h = (v, (and_parts (test v) _ h.0).0, not_true (other v) (and_parts (test v) _ h.0).1)
 
-back_readable : (v : Version) → ReadsBack v → IsReadable v
+pub back_readable : (v : Version) → ReadsBack v → IsReadable v
 back_readable v back = go (trim (version_text v)) back
   where
     go : (text : List ℕ) → IsVersionOutcome text (Ok v) → IsReadable v

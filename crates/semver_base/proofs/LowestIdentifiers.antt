@@ -8,7 +8,7 @@ use Rattle.std.specs.Cmp.Lexicographic.{slice_cmp}
 use Rattle.std.specs.Ordering.{is_le, nat_cmp, ordering_then}
 use Rattle.std.specs.Str.{all_ascii_digits}
 use Rattle.std.specs.Str.Parse.{without_leading_plus}
-use Rattle.semver_base.specs.Candidates.{zero_identifier}
+use Rattle.semver_base.specs.Intervals.{zero_identifier}
 use Rattle.semver_base.specs.Lexical.{IsIdentifier, is_identifier_byte}
 use Rattle.semver_base.specs.Precedence.{identifier_class, identifier_cmp, identifier_value, is_number, number_of}
 use Rattle.semver_base.specs.PrecedenceLaws.{identifier_total}

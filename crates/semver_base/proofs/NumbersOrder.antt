@@ -1,11 +1,16 @@
 -- The order of versions by their three numbers, and precedence by it.
 use Rattle.std.proofs.Common.{◌≡◌, ◌<◌, ◌≤◌, ℕ, true, refl, sym, inl, inr, arith, ◌⊎◌, Ordering, Less, Equal, Greater}
 use Rattle.std.proofs.lemmas.Cmp.{nat_cmp_total, ranked, tied_itself}
+use Rattle.std.specs.Cmp.{IsTotalOrder, on_total, then_total}
 use Rattle.std.specs.FinMap.{nat_cmp-IsAntisymmetric}
 use Rattle.std.specs.Ordering.{is_le, nat_cmp, ordering_then, MatchOrdering}
 use Rattle.semver_base.specs.Precedence.{numbers_cmp, precedence_cmp, pre_cmp}
 use Rattle.semver_base.specs.declared.version.Version.{Version}
-use Rattle.semver_base.specs.OrderLaws.{le_then, nat_le_cmp}
+use Rattle.semver_base.specs.OrderLaws.{le_then, nat_le_cmp, SameNumbers}
+use Rattle.semver_base.specs.PrecedenceLaws.{then_first, then_second}
+
+pub numbers_total : IsTotalOrder numbers_cmp
+numbers_total = then_total (on_total (λ (v : Version). v.major) nat_cmp_total) (then_total (on_total (λ (v : Version). v.minor) nat_cmp_total) (on_total (λ (v : Version). v.patch) nat_cmp_total))
 
 then_in_threes : (a b c d : Ordering) → ordering_then a (ordering_then b (ordering_then c d)) ≡ ordering_then (ordering_then a (ordering_then b c)) d
 then_in_threes Less b c d = refl
@@ -68,3 +73,15 @@ numbers_le x y h k l =
 
 pub numbers_tied : (x : Version) → numbers_cmp x x ≡ Equal
 numbers_tied x = rw (tied_itself nat_cmp_total x.major, tied_itself nat_cmp_total x.minor) (tied_itself nat_cmp_total x.patch)
+
+pub same_right : (x t v : Version) → SameNumbers t v → numbers_cmp x t ≡ numbers_cmp x v
+same_right x t v same = rw (same.major, same.minor, same.patch) refl
+
+pub tied_numbers : (x y : Version) → numbers_cmp x y ≡ Equal → SameNumbers x y
+tied_numbers x y e =
+    let rest = then_second (nat_cmp x.major y.major) _ e in
+    record {
+      major = nat_cmp-IsAntisymmetric _ _ (then_first (nat_cmp x.major y.major) _ e);
+      minor = nat_cmp-IsAntisymmetric _ _ (then_first (nat_cmp x.minor y.minor) _ rest);
+      patch = nat_cmp-IsAntisymmetric _ _ (then_second (nat_cmp x.minor y.minor) _ rest);
+    }

@@ -1,110 +1,62 @@
--- Two candidates decide whether some pre-release of a bound's numbers matches: the lowest one of these numbers, and the
--- lowest of the start's numbers from it on.
-use Rattle.std.proofs.Common.{◌≡◌, ◌&&◌, ◌↔◌, Bool, true, false, not, Option, Some, None, refl, sym, subst, ◌∙◌, inl, inr, ◌||◌, is_some, IfSome, IsTrue}
-use Rattle.std.proofs.lemmas.Bool.{and_from, and_parts, cases_Bool, or_left, or_right}
-use Rattle.semver_base.specs.Candidates.{filtered, own_pre, zero_pre}
-use Rattle.semver_base.specs.LowestVersion.{IsReadable, DecidesSome, PassesSome}
-use Rattle.semver_base.specs.Meaning.{has_pre_of, is_pre_match, is_release, range_means}
-use Rattle.semver_base.specs.NormalText.{IsWritableBound}
-use Rattle.semver_base.specs.VersionText.{IsWritable}
+-- Whether some pre-release of a bound's numbers matches, by the lowest one.
+use Rattle.std.proofs.Common.{◌≡◌, ◌&&◌, ◌||◌, ◌↔◌, Bool, true, false, not, Option, Some, None, Result, refl, sym, ◌∙◌, is_some, IfOk, IfSome, IsTrue}
+use Rattle.semver_base.specs.Intervals.{is_of, is_within, IsFound}
+use Rattle.semver_base.specs.LowestVersion.{DecidesSome, IsLowestPassing, PassesSome}
+use Rattle.semver_base.specs.Meaning.{admits_pre, bounds_hold, has_pre_of, is_pre_match, is_release}
+use Rattle.semver_base.specs.VersionText.{ReadsBack}
 use Rattle.semver_base.specs.declared.version.Version.{Version}
-use Rattle.semver_base.specs.declared.range.PreRelease.TheVariants.{Restricted}
 use Rattle.semver_base.specs.declared.range.RangeBound.{RangeBound}
+use Rattle.semver_base.specs.declared.range.RangeBound.TheVariants as bound
+use Rattle.semver_base.specs.declared.range.VersionBound.{VersionBound}
 use Rattle.semver_base.specs.declared.range.VersionRange.{VersionRange}
-use Rattle.semver_base.proofs.LowestFrom.{lower_means, means_start, pre_reached, same_admits, GoesDown, Reaches}
-use Rattle.semver_base.proofs.Lowest.{pre_cases}
-use Rattle.semver_base.proofs.LowestWritten.{own_pre_writable, zero_pre_writable}
-use Rattle.semver_base.specs.OrderLaws as orders
+use Rattle.semver_base.specs.declared.range.intervals.Group.TheVariants.{PreReleases}
+use Rattle.semver_base.specs.declared.range.intervals.Interval.{Interval}
+use Rattle.semver_base.proofs.Containment.{back_readable}
+use Rattle.semver_base.proofs.FoundVersions.{found_if_ok}
+use Rattle.semver_base.proofs.LowestFirst.{none_found}
+use Rattle.semver_base.specs.OrderLaws.{pre_numbers, SameNumbers}
 
-module _ (range : VersionRange) (b : RangeBound) where
-  abbrev test : Version → Bool
-  test = is_pre_match range b
+-- a bound is a pre-release of the numbers of either version
+same_pre : (x : RangeBound) (v w : Version) → SameNumbers w v → has_pre_of x v ≡ has_pre_of x w
+same_pre bound.Unbounded v w same = refl
+same_pre (bound.Version x) v w same = rw (same.major, same.minor, same.patch) refl
 
-  pre : (v : Version) → test v ≡ true → is_release v ≡ false
-  pre v h = orders.not_true (is_release v) (and_parts _ (has_pre_of b v) (and_parts _ (range_means range v) h).0).0
+-- a range admits pre-releases of the bound's numbers if it admits one
+same_admits : (range : VersionRange) (b : VersionBound) (v : Version) → has_pre_of (bound.Version b) v ≡ true → admits_pre range v ≡ admits_pre range b.version
+same_admits range b v h =
+    let same = pre_numbers b.version v h in
+    rw (same_pre range.start v b.version same, same_pre range.end v b.version same) refl
 
-  of_bound : (v : Version) → test v ≡ true → has_pre_of b v ≡ true
-  of_bound v h = (and_parts (not (is_release v)) _ (and_parts _ (range_means range v) h).0).1
+matched : (r p m a w b : Bool) → w ≡ (p && b) → (p ≡ true → m ≡ a) → a ≡ true → (not r && w) ≡ ((not r && p) && ((b && true) && (r || (m || false))))
+matched true p m a w b e f g = refl
+matched false false m a w b e f g = rw e refl
+matched false true m a w true e f g = rw (e, f refl, g) refl
+matched false true m a w false e f g = rw e refl
 
-  meant : (v : Version) → test v ≡ true → range_means range v ≡ true
-  meant v h = (and_parts (not (is_release v) && has_pre_of b v) _ h).1
+unmatched : (r p m a b : Bool) → (p ≡ true → m ≡ a) → a ≡ false → ((not r && p) && ((b && true) && (r || (m || false)))) ≡ false
+unmatched true p m a b f g = refl
+unmatched false false m a b f g = refl
+unmatched false true m a true f g = rw (f refl, g) refl
+unmatched false true m a false f g = refl
 
-  down : (v : Version) → test v ≡ true → GoesDown Restricted test range.start v
-  down v h = λ w held alike le. elim alike [
-    | inl plain ↦ let never : true ≡ false = sym plain.1 ∙ pre v h in cc never
-    | inr same ↦ and_from _ _ (rw (same.0, same_admits b w v same.2 (of_bound v h)) refl) (lower_means Restricted range w v held (inr same) le (meant v h))
-  ]
+module _ (range : VersionRange) (b : VersionBound) where
+  -- a range that admits none of the bound's numbers matches none
+  pub none_admitted : (W : Type 0) → admits_pre range b.version ≡ false → IsFound (is_pre_match range (bound.Version b)) W None
+  none_admitted W none = none_found (is_pre_match range (bound.Version b)) W (λ v readable.
+      unmatched (is_release v) (has_pre_of (bound.Version b) v) (admits_pre range v) (admits_pre range b.version) (bounds_hold range v) (same_admits range b v) none)
 
-  found : (x : Option Version) (v : Version) → Reaches (filtered test x) v → is_some (filtered test x) ≡ true
-  found x v h = go (filtered test x) h
-    where
-      go : (y : Option Version) → Reaches y v → is_some y ≡ true
-      go None h = absurd h
-      go (Some w) h = refl
+  -- the lowest within the bounds and the numbers is the lowest that matches
+  pub admitted_lowest : {E : Type 0} (W V : Type 0) (i : Interval) (r : Result (Option Version) E) → admits_pre range b.version ≡ true → ((v : Version) → is_within i v ≡ (has_pre_of (bound.Version b) v && bounds_hold range v)) → (V → W)
+      → IfOk r (IsFound (λ v. is_of PreReleases v && is_within i v) W) → IfOk r (IsFound (is_pre_match range (bound.Version b)) V)
+  admitted_lowest W V i r admits holds written h = found_if_ok (λ v. is_of PreReleases v && is_within i v) (is_pre_match range (bound.Version b)) W V r h
+      (λ v. matched (is_release v) (has_pre_of (bound.Version b) v) (admits_pre range v) (admits_pre range b.version) (is_within i v) (bounds_hold range v) (holds v) (same_admits range b v) admits) written
 
-  either : (v : Version) → IsReadable v → test v ≡ true → (is_some (filtered test (zero_pre b)) || is_some (filtered test (own_pre range.start))) ≡ true
-  either v readable h =
-      let reached = pre_reached test range.start b v readable (means_start Restricted range v (meant v h)) (pre v h) (of_bound v h) (down v h) in
-      elim (pre_cases range.start b) [
-        | inl none ↦ absurd (subst (λ x. Reaches (filtered test x) v) none reached)
-        | inr some ↦ elim some [
-          | inl zero ↦ or_left _ _ (found (zero_pre b) v (subst (λ x. Reaches (filtered test x) v) zero reached))
-          | inr own ↦ or_right (is_some (filtered test (zero_pre b))) _ (found (own_pre range.start) v (subst (λ x. Reaches (filtered test x) v) own reached))
-        ]
-      ]
+-- ---- what is reported
 
-  -- a candidate that is kept passes
-  witness : (x : Option Version) → is_some (filtered test x) ≡ true → (v : Version) × (x ≡ Some v) × (test v ≡ true)
-  witness None h = cc h
-  witness (Some w) h = elim (cases_Bool (test w)) [
-    | inl passes ↦ (w, refl, passes)
-    | inr fails ↦ let never : false ≡ true = rw fails at h in cc never
-  ]
+pub reported : (test : Version → Bool) (x : Option Version) (found : Bool) → found ≡ is_some x → IsLowestPassing test x → DecidesSome test found
+reported test (Some v) found e h = rw e (v, h.0)
+reported test None found e h = rw e h
 
-  -- what is true of the candidate is true of that version
-  kept : (P : Version → Type 0) (x : Option Version) → IfSome x P → is_some (filtered test x) ≡ true → (v : Version) × P v × (test v ≡ true)
-  kept P x such h = let w = witness x h in (w.0, subst (λ y. IfSome y P) w.1 such, w.2)
-
-  none_passes : (lowest own : Bool) → lowest ≡ is_some (filtered test (zero_pre b)) → own ≡ is_some (filtered test (own_pre range.start))
-      → lowest ≡ false → own ≡ false → (v : Version) → IsReadable v → test v ≡ false
-  none_passes lowest own e f no_lowest no_own v readable = elim (cases_Bool (test v)) [
-    | inl passes ↦ let some : (false || false) ≡ true = rw (sym e ∙ no_lowest, sym f ∙ no_own) at (either v readable passes) in cc some
-    | inr fails ↦ fails
-  ]
-
-  reported_some : (lowest own : Bool) → lowest ≡ is_some (filtered test (zero_pre b)) → own ≡ is_some (filtered test (own_pre range.start)) → DecidesSome test (lowest || own)
-  reported_some true own e f = let w = witness (zero_pre b) (sym e) in (w.0, w.2)
-  reported_some false true e f = let w = witness (own_pre range.start) (sym f) in (w.0, w.2)
-  reported_some false false e f = none_passes false false e f refl refl
-
-  readable_pre : (x : Option Version) → IfSome x IsWritable → is_some (filtered test x) ≡ true → PassesSome test
-  readable_pre x such h = let v = kept IsWritable x such h in
-      (v.0, record { numbers = v.1.numbers; pre = v.1.pre }, v.2)
-
-  reported_exact : (lowest own : Bool) → lowest ≡ is_some (filtered test (zero_pre b)) → own ≡ is_some (filtered test (own_pre range.start))
-      → IsWritableBound range.start → IsWritableBound b → IsTrue (lowest || own) ↔ PassesSome test
-  reported_exact true own e f start end = (λ _. readable_pre (zero_pre b) (zero_pre_writable b end) (sym e), λ _. refl)
-  reported_exact false true e f start end = (λ _. readable_pre (own_pre range.start) (own_pre_writable range.start start) (sym f), λ _. refl)
-  reported_exact false false e f start end = (
-    λ is. cc is,
-    λ some. let no : test some.0 ≡ false = none_passes false false e f refl refl some.0 some.1 in
-        let never : true ≡ false = sym some.2 ∙ no in cc never,
-  )
-
-  pub reported_lowest : (lowest own : Bool) → lowest ≡ is_some (filtered test (zero_pre b)) → own ≡ is_some (filtered test (own_pre range.start)) → lowest ≡ true → DecidesSome test lowest
-  reported_lowest true own e f is = reported_some true own e f
-  reported_lowest false own e f is = cc is
-
-  pub reported_own : (lowest own : Bool) → lowest ≡ is_some (filtered test (zero_pre b)) → own ≡ is_some (filtered test (own_pre range.start)) → lowest ≡ false → DecidesSome test own
-  reported_own true own e f is = cc is
-  reported_own false own e f is = reported_some false own e f
-
-  pub exact_lowest : (lowest own : Bool) → lowest ≡ is_some (filtered test (zero_pre b)) → own ≡ is_some (filtered test (own_pre range.start)) → lowest ≡ true
-      → IsWritableBound range.start → IsWritableBound b → IsTrue lowest ↔ PassesSome test
-  exact_lowest true own e f is = reported_exact true own e f
-  exact_lowest false own e f is = cc is
-
-  pub exact_own : (lowest own : Bool) → lowest ≡ is_some (filtered test (zero_pre b)) → own ≡ is_some (filtered test (own_pre range.start)) → lowest ≡ false
-      → IsWritableBound range.start → IsWritableBound b → IsTrue own ↔ PassesSome test
-  exact_own true own e f is = cc is
-  exact_own false own e f is = reported_exact false own e f
+pub reported_exact : (test : Version → Bool) (x : Option Version) (found : Bool) → found ≡ is_some x → IsLowestPassing test x → IfSome x ReadsBack → IsTrue found ↔ PassesSome test
+reported_exact test (Some v) found e h back = (λ _. (v, back_readable v back, h.0), λ _. e)
+reported_exact test None found e h back = (λ is. cc (e, is), λ some. let none : true ≡ false = sym some.2 ∙ h some.0 some.1 in cc none)

@@ -1,5 +1,4 @@
 pub mod ByteLaws
-pub mod Candidates
 pub mod Characters
 pub mod Clamp
 pub mod ClampLaws
@@ -9,6 +8,7 @@ pub mod Failure
 pub mod Forms
 pub mod Grammar
 pub mod GrammarLaws
+pub mod Intervals
 pub mod LengthLaws
 pub mod Lexical
 pub mod ListLaws

@@ -9,6 +9,7 @@ ghost use Rattle.semver_base.specs.Overlap.{ends_at_zero, overlap, some_overlap,
 ghost use Rattle.semver_base.specs.declared.range.PreRelease.TheVariants.{Restricted};
 
 mod display;
+mod intervals;
 mod lowest;
 
 use crate::string::{CowItem, CowVec};

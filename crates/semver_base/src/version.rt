@@ -281,7 +281,7 @@ pub(crate) fn number(identifier: &VersionPreOrBuild) -> Option<u64>
 
 // Compares pre-releases. Emptiness is known without following the list's pointer.
 #[inline(never)]
-fn cmp_pre(a: &CowVec<VersionPreOrBuild>, b: &CowVec<VersionPreOrBuild>) -> Ordering
+pub(crate) fn cmp_pre(a: &CowVec<VersionPreOrBuild>, b: &CowVec<VersionPreOrBuild>) -> Ordering
     ensures { result ≡ pre_cmp a.now b.now }
 {
     if a.is_empty() {

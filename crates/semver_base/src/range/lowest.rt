@@ -1,97 +1,24 @@
 //! The lowest version that ranges match: those of one set, of several sets together, or of one set but not another; and
 //! whether one set is a subset of another, or equivalent to it.
 //!
-//! Each of these asks for the lowest version that all sets match and some other ranges don't. Such versions begin at few
-//! places: at the start of a range, or just past the end of one of the other ranges. So the lowest version of each kind from
-//! each of these places on is a candidate, and the result is the lowest candidate that passes. Each candidate is compared
-//! with all ranges at most: the time grows with the square of their number.
+//! Each of these asks for the lowest version that all sets match and some other ranges don't. What a set matches is a list of
+//! intervals (`range::intervals`). What must not match are the gaps that each set leaves, and the other ranges: the version is
+//! the lowest in the gaps that these leave. So the time to sort the intervals decides, `n log n` in the number of all ranges.
 
-ghost use Rattle.std.specs.Prelude.{◌≡◌, ◌∷◌, ◌↔◌, [], IfOk, IfSome, IsTrue, is_some};
-ghost use Rattle.std.specs.List.{list_any, AllByRecursion};
-ghost use Rattle.semver_base.specs.Candidates.{from_set, from_start, filtered, lower_passing, lowest_of, own_pre, passes, pre_from, with_pre, zero_identifier, zero_pre};
+ghost use Rattle.std.specs.Prelude.{◌≡◌, ◌∷◌, ◌↔◌, ◌&&◌, ◌||◌, not, [], IfOk, IfSome, IsTrue, is_some, true};
+ghost use Rattle.std.specs.List.{AllByRecursion};
+ghost use Rattle.semver_base.specs.Intervals.{all_match, flag_of, hold, is_of, is_within, passes, some_means, AreWritableIntervals, AreWritableSets, IsFound, IsWhole, IsWritableInterval};
 ghost use Rattle.semver_base.specs.Containment.{AreEquivalent, IsWithin, ReportsEquivalent, ReportsWithin};
 ghost use Rattle.semver_base.specs.LowestVersion.{HasNoBuild, IsLowestPassing, DecidesSome, PassesSome, all_mean_with, set_means_alone_with, sets_mean_with};
-ghost use Rattle.semver_base.specs.Meaning.{is_pre_match, range_means_with, set_means_with};
+ghost use Rattle.semver_base.specs.Meaning.{admits_pre, is_pre_match, range_means_with, set_means_with};
 ghost use Rattle.semver_base.specs.NormalText.{AreWritableRanges, IsWritableBound, IsWritableRange};
 ghost use Rattle.semver_base.specs.VersionText.{ReadsBack};
 
-use crate::range::{
-    PreRelease, RangeBound, VersionBound, VersionBoundKind, VersionRange, VersionRangeSet,
-};
-use crate::string::CowVec;
-use crate::version::{Version, VersionPreOrBuild, release};
+use crate::range::intervals::{self, Group, Interval, lesser, matched, push_gaps};
+use crate::range::{PreRelease, RangeBound, VersionRange, VersionRangeSet};
+use crate::version::Version;
 use std::alloc::{AllocError, Global};
-use std::cmp::Ordering;
 use std::slice;
-
-// The version of the same numbers with this pre-release, without a build.
-fn with_pre(alloc: Global, version: &Version, pre: CowVec<VersionPreOrBuild>) -> Version
-    ensures { result ≡ with_pre version.now pre }
-{
-    Version {
-        major: version.major,
-        minor: version.minor,
-        patch: version.patch,
-        pre,
-        build: CowVec::new(alloc),
-    }
-}
-
-// The lowest pre-release of the version's numbers.
-fn zero_version(alloc: Global, version: &Version) -> Result<Version, AllocError>
-    ensures { IfOk result (λ v. v ≡ with_pre version.now (zero_identifier ∷ [])) }
-{
-    let mut pre = CowVec::new(alloc);
-    pre.push(VersionPreOrBuild::from_static(alloc, "0")?)?;
-    Ok(with_pre(alloc, version, pre))
-}
-
-// The lowest pre-release of the same numbers from a pre-release start on: itself, or with `0` appended if exclusive.
-fn pre_from(alloc: Global, start: &VersionBound) -> Result<Version, AllocError>
-    ensures { IfOk result (λ v. v ≡ pre_from start.now.kind start.now.version) }
-{
-    let mut pre = start.version.pre.copy()?;
-    if start.kind == VersionBoundKind::Exclusive {
-        pre.push(VersionPreOrBuild::from_static(alloc, "0")?)?;
-    }
-    Ok(with_pre(alloc, &start.version, pre))
-}
-
-impl RangeBound {
-    // The lowest pre-release of this start's numbers from it on, if it is a pre-release.
-    fn own_pre(&self, alloc: Global) -> Result<Option<Version>, AllocError>
-        ensures { IfOk result (λ lowest. lowest ≡ own_pre self.now) }
-    {
-        match self {
-            RangeBound::Version(bound) if !bound.version.pre.is_empty() => {
-                Ok(Some(pre_from(alloc, bound)?))
-            }
-            _ => Ok(None),
-        }
-    }
-
-    // The lowest pre-release of this bound's numbers, if it is a pre-release.
-    fn zero_pre(&self, alloc: Global) -> Result<Option<Version>, AllocError>
-        ensures { IfOk result (λ lowest. lowest ≡ zero_pre self.now) }
-    {
-        match self {
-            RangeBound::Version(bound) if !bound.version.pre.is_empty() => {
-                Ok(Some(zero_version(alloc, &bound.version)?))
-            }
-            _ => Ok(None),
-        }
-    }
-}
-
-// Whether some range matches the version.
-fn some_match(ranges: &[VersionRange], version: &Version, pre_release: PreRelease) -> bool
-    ensures { result
-        ≡ list_any (λ range. range_means_with pre_release range version.now) ranges.now }
-{
-    ranges
-        .iter()
-        .any(|range| range.satisfies_with(version, pre_release))
-}
 
 // What has to match, and what must not.
 #[derive(Clone, Copy)]
@@ -102,135 +29,135 @@ struct Question<'a> {
     pre_release: PreRelease,
 }
 
-impl Question<'_> {
-    // Whether some own range and all other sets match the version, and none of the excluded ranges does.
-    fn passes(&self, version: &Version) -> bool
-        ensures { result ≡ passes self.now.pre_release self.now.own.now self.now.others.now
-            self.now.without.now version.now }
-    {
-        some_match(self.own, version, self.pre_release)
-            && self
-                .others
-                .iter()
-                .all(|set| set.satisfies_with(version, self.pre_release))
-            && !some_match(self.without, version, self.pre_release)
+// What some set doesn't match of the group, or one of the ranges to be left out does.
+fn left_out<'a>(
+    alloc: Global,
+    own: Vec<Interval<'a>>,
+    question: Question<'a>,
+    group: Group,
+    whole: Interval<'a>,
+) -> Result<Vec<Interval<'a>>, AllocError>
+    requires whole { IsWhole whole }
+    requires own { (v : Version) → is_of group v ≡ true
+        → hold own.items v ≡ some_means (flag_of group) question.own.now v }
+    requires writable { AreWritableRanges question.own.now → AreWritableIntervals own.items }
+    ensures holds { IfOk result (λ out. (v : Version) → is_of group v ≡ true
+        → hold out.items v ≡ not (passes (flag_of group) question.entry.own.now
+        question.entry.others.now question.entry.without.now v)) }
+    ensures writable { IfOk result (λ out. AreWritableRanges question.entry.own.now
+        → AreWritableSets question.entry.others.now
+        → AreWritableRanges question.entry.without.now → AreWritableIntervals out.items) }
+{
+    let mut out = Vec::new(alloc);
+    push_gaps(&mut out, own, whole)?;
+    for set in question.others {
+        let intervals = matched(alloc, set.0.as_slice(), group, whole)?;
+        push_gaps(&mut out, intervals, whole)?;
     }
+    let without = matched(alloc, question.without, group, whole)?;
+    out.extend_from_slice(without.as_slice())?;
+    Ok(out)
+}
 
-    // The lower of the version found so far and the candidate, if that passes.
-    fn lower_passing(&self, found: Option<Version>, candidate: Option<Version>) -> Option<Version>
-        ensures { result ≡ lower_passing (passes self.now.pre_release self.now.own.now
-            self.now.others.now self.now.without.now) found candidate }
-    {
-        match (found, candidate) {
-            (found, None) => found,
-            (None, Some(candidate)) => {
-                if self.passes(&candidate) {
-                    return Some(candidate);
-                }
-                None
-            }
-            (Some(found), Some(candidate)) => match found.cmp_precedence(&candidate) {
-                Ordering::Less => Some(found),
-                Ordering::Equal => Some(found),
-                Ordering::Greater => {
-                    if self.passes(&candidate) {
-                        return Some(candidate);
-                    }
-                    Some(found)
-                }
-            },
-        }
+// What all match of the group, if each has one range, and this is one interval.
+fn common_single<'a>(
+    question: Question<'a>,
+    group: Group,
+    whole: Interval<'a>,
+) -> Option<Interval<'a>>
+    requires { IsWhole whole }
+    ensures holds { IfSome result (λ interval. (v : Version) → is_of group v ≡ true
+        → is_within interval v ≡ all_match (flag_of group) question.entry.own.now v
+        question.entry.others.now) }
+    ensures writable { IfSome result (λ interval. AreWritableRanges question.entry.own.now
+        → AreWritableSets question.entry.others.now → IsWritableInterval interval) }
+{
+    let Some(own) = Interval::of_single(question.own, group, whole) else {
+        return None;
+    };
+    let mut common = own;
+    for set in question.others {
+        let Some(other) = Interval::of_single(set.0.as_slice(), group, whole) else {
+            return None;
+        };
+        common = common.meet(other);
+    }
+    Some(common)
+}
+
+// What passes of the group, as two intervals, if each set has one range: then no list has to be made.
+fn single_intervals<'a>(
+    question: Question<'a>,
+    group: Group,
+    whole: Interval<'a>,
+) -> Option<(Interval<'a>, Interval<'a>)>
+    requires { IsWhole whole }
+    ensures holds { IfSome result (λ both. (v : Version) → is_of group v ≡ true
+        → (is_within both.0 v || is_within both.1 v) ≡ passes (flag_of group)
+        question.entry.own.now question.entry.others.now question.entry.without.now v) }
+    ensures writable { IfSome result (λ both. AreWritableRanges question.entry.own.now
+        → AreWritableSets question.entry.others.now
+        → AreWritableRanges question.entry.without.now
+        → IsWritableInterval both.0 × IsWritableInterval both.1) }
+{
+    let Some(common) = common_single(question, group, whole) else {
+        return None;
+    };
+    if question.without.is_empty() {
+        return Some((common, whole.emptied()));
+    }
+    match Interval::of_single(question.without, group, whole) {
+        Some(other) => Some(common.without(other)),
+        None => None,
     }
 }
 
+// The lowest version of the group that passes.
+fn lowest_of<'a>(
+    alloc: Global,
+    question: Question<'a>,
+    group: Group,
+    whole: Interval<'a>,
+) -> Result<Option<Version>, AllocError>
+    requires { IsWhole whole }
+    ensures { IfOk result (IsFound (λ v. is_of group v && passes (flag_of group)
+        question.entry.own.now question.entry.others.now question.entry.without.now v)
+        (AreWritableRanges question.entry.own.now × AreWritableSets question.entry.others.now
+        × AreWritableRanges question.entry.without.now)) }
+{
+    if let Some((below, above)) = single_intervals(question, group, whole) {
+        let low = below.first(alloc, group)?;
+        let high = above.first(alloc, group)?;
+        return Ok(lesser(low, high));
+    }
+    let own = matched(alloc, question.own, group, whole)?;
+    if own.is_empty() {
+        return Ok(None);
+    }
+    let out = left_out(alloc, own, question, group, whole)?;
+    let mut inside = Vec::new(alloc);
+    push_gaps(&mut inside, out, whole)?;
+    intervals::lowest(alloc, inside.as_slice(), group)
+}
+
 impl Question<'_> {
-    // The lowest of the version found so far and this start's candidates that pass.
-    fn from_start(
-        &self,
-        alloc: Global,
-        found: Option<Version>,
-        start: &RangeBound,
-    ) -> Result<Option<Version>, AllocError>
-        ensures { IfOk result (λ lowest. lowest ≡ from_start self.now.pre_release
-            (passes self.now.pre_release self.now.own.now self.now.others.now self.now.without.now)
-            found start.now) }
-    {
-        // The lowest release from the start on, and the bound whose own version is the lowest if pre-releases are admitted.
-        let (next, own) = match start {
-            RangeBound::Unbounded => (Some(release(alloc, 0, 0, 0)), None),
-            RangeBound::Version(bound) => {
-                let version = &bound.version;
-                if bound.kind == VersionBoundKind::Exclusive && version.pre.is_empty() {
-                    let next = if let Some(patch) = version.patch.checked_add(1) {
-                        Some(release(alloc, version.major, version.minor, patch))
-                    } else if let Some(minor) = version.minor.checked_add(1) {
-                        Some(release(alloc, version.major, minor, 0))
-                    } else if let Some(major) = version.major.checked_add(1) {
-                        Some(release(alloc, major, 0, 0))
-                    } else {
-                        None
-                    };
-                    (next, None)
-                } else {
-                    let own = release(alloc, version.major, version.minor, version.patch);
-                    (Some(own), Some(bound))
-                }
-            }
-        };
-        let free = match (self.pre_release, own, next) {
-            (PreRelease::Restricted, _, next) => next,
-            (PreRelease::Admitted, Some(own), _) => Some(pre_from(alloc, own)?),
-            (PreRelease::Admitted, None, Some(next)) => Some(zero_version(alloc, &next)?),
-            (PreRelease::Admitted, None, None) => None,
-        };
-        let found = self.lower_passing(found, free);
-        let found = self.lower_passing(found, start.own_pre(alloc)?);
-        Ok(self.lower_passing(found, start.zero_pre(alloc)?))
-    }
-
-    // The lowest of the version found so far and these ranges' candidates that pass.
-    fn from_set(
-        &self,
-        alloc: Global,
-        found: Option<Version>,
-        ranges: &[VersionRange],
-    ) -> Result<Option<Version>, AllocError>
-        ensures { IfOk result (λ lowest. lowest ≡ from_set self.now.pre_release
-            (passes self.now.pre_release self.now.own.now self.now.others.now self.now.without.now)
-            found ranges.now) }
-    {
-        let mut lowest = found;
-        for range in ranges {
-            lowest = self.from_start(alloc, lowest, &range.start)?;
-            lowest = self.lower_passing(lowest, range.end.zero_pre(alloc)?);
-        }
-        Ok(lowest)
-    }
-
     // The lowest version that passes.
     fn lowest(&self, alloc: Global) -> Result<Option<Version>, AllocError>
-        ensures { IfOk result (λ lowest. lowest ≡ lowest_of self.now.pre_release
-            self.now.own.now self.now.others.now self.now.without.now) }
+        ensures { IfOk result (IsFound (passes self.now.pre_release self.now.own.now
+            self.now.others.now self.now.without.now)
+            (AreWritableRanges self.now.own.now × AreWritableSets self.now.others.now
+            × AreWritableRanges self.now.without.now)) }
     {
-        let mut lowest = self.from_set(alloc, None, self.own)?;
-        for set in self.others {
-            lowest = self.from_set(alloc, lowest, set.0.as_slice())?;
+        let zero = Version::new(alloc);
+        let whole = Interval::whole(&zero);
+        match self.pre_release {
+            PreRelease::Admitted => lowest_of(alloc, *self, Group::Every, whole),
+            PreRelease::Restricted => {
+                let release = lowest_of(alloc, *self, Group::Releases, whole)?;
+                let pre = lowest_of(alloc, *self, Group::PreReleases, whole)?;
+                Ok(lesser(release, pre))
+            }
         }
-        for range in self.without {
-            // The start of what the end excludes. An absent end excludes nothing, and is taken as it is.
-            let start = match &range.end {
-                RangeBound::Unbounded => RangeBound::Unbounded,
-                RangeBound::Version(end) => {
-                    let kind = match end.kind {
-                        VersionBoundKind::Inclusive => VersionBoundKind::Exclusive,
-                        VersionBoundKind::Exclusive => VersionBoundKind::Inclusive,
-                    };
-                    RangeBound::version(kind, end.version.copy()?)
-                }
-            };
-            lowest = self.from_start(alloc, lowest, &start)?;
-        }
-        Ok(lowest)
     }
 }
 
@@ -261,17 +188,35 @@ impl VersionRange {
 }
 
 impl VersionRange {
-    // Whether the candidate is a pre-release of the bound's numbers that matches by npm's rule.
-    fn is_pre_match(&self, bound: &RangeBound, candidate: Option<Version>) -> bool
-        ensures { result ≡ is_some (filtered (is_pre_match self.now bound.now) candidate) }
+    // Whether one of the bounds is a pre-release of the version's numbers.
+    fn admits_pre(&self, version: &Version) -> bool
+        ensures { result ≡ admits_pre self.now version.now }
     {
-        let Some(version) = candidate else {
-            return false;
+        self.start.has_pre_with_exact_major_minor_patch(version)
+            || self.end.has_pre_with_exact_major_minor_patch(version)
+    }
+
+    // The lowest pre-release of the bound's numbers that matches by npm's rule.
+    fn lowest_pre_of<'a>(
+        &'a self,
+        alloc: Global,
+        bound: &'a RangeBound,
+        whole: Interval<'a>,
+    ) -> Result<Option<Version>, AllocError>
+        requires { IsWhole whole }
+        ensures { IfOk result (IsFound (is_pre_match self.now bound.now)
+            (IsWritableBound self.now.start × IsWritableBound bound.now)) }
+    {
+        let RangeBound::Version(other) = bound else {
+            return Ok(None);
         };
-        if version.pre.is_empty() || !bound.has_pre_with_exact_major_minor_patch(&version) {
-            return false;
+        if !self.admits_pre(&other.version) {
+            return Ok(None);
         }
-        self.satisfies_with(&version, PreRelease::Restricted)
+        let Some(interval) = Interval::of(self, whole).of_numbers(bound) else {
+            return Ok(None);
+        };
+        interval.first(alloc, Group::PreReleases)
     }
 
     /// Whether the bound is a pre-release, and some pre-release of its three numbers matches, by npm's rule about
@@ -285,9 +230,10 @@ impl VersionRange {
             (λ reported. IsWritableBound self.now.start → IsWritableBound bound.now
             → (IsTrue reported ↔ PassesSome (is_pre_match self.now bound.now))) }
     {
-        let lowest = self.is_pre_match(bound, bound.zero_pre(alloc)?);
-        let own = self.is_pre_match(bound, self.start.own_pre(alloc)?);
-        Ok(lowest || own)
+        let zero = Version::new(alloc);
+        let whole = Interval::whole(&zero);
+        let lowest = self.lowest_pre_of(alloc, bound, whole)?;
+        Ok(lowest.is_some())
     }
 }
 

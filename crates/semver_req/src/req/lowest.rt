@@ -3,7 +3,7 @@
 //!
 //! Tags name versions that only a registry knows, so each call requires that no requirement is one, as
 //! [`VersionReq::matches`] does. Each takes whether pre-releases are restricted by npm's rule or admitted throughout, as
-//! [`VersionReq::matches_with`] does. The time grows with the square of the number of ranges of all requirements.
+//! [`VersionReq::matches_with`] does. It takes `n log n` comparisons for the ranges of all requirements.
 
 ghost use Rattle.std.specs.Prelude.{◌≡◌, ◌↔◌, IfOk, IfSome, IsTrue, None, true};
 ghost use Rattle.semver_base.specs.Containment.{AreEquivalent, IsWithin, ReportsEquivalent, ReportsWithin};

@@ -1,23 +1,19 @@
-use Rattle.std.proofs.Common.{[], ◌∷◌, IfSome}
-use Rattle.semver_base.specs.Candidates.{lowest_of}
-use Rattle.semver_base.specs.LowestVersion.{HasNoBuild, IsLowestPassing, sets_mean_with}
+use Rattle.std.proofs.Common.{IfOk}
+use Rattle.std.proofs.lemmas.Result.{IfOk-weaker}
+use Rattle.semver_base.specs.LowestVersion.{sets_mean_with}
 use Rattle.semver_base.specs.NormalText.{AreWritableRanges}
-use Rattle.semver_base.specs.VersionText.{ReadsBack}
-use Rattle.semver_base.proofs.LowestWritten.{lowest_no_build, lowest_reads_back}
-use Rattle.semver_base.proofs.LowestAsked.{answered, common_lowest}
+use Rattle.semver_base.specs.Intervals.{IsFound}
+use Rattle.semver_base.proofs.FoundVersions.{found_if_ok, common_asked}
 use Rattle.semver_base.proofs.range.VersionRangeSet.common_version.Goals as goal
 
+found : (c : goal.After-lowest) → IfOk c.lowest.result (IsFound (sets_mean_with c.args.pre_release c.args.self.now.0 c.args.other.now.0) (AreWritableRanges c.args.self.now.0 × AreWritableRanges c.args.other.now.0))
+found c = found_if_ok _ _ _ _ c.lowest.result (rw (c.as_slice.ensures, c.from_ref.ensures.value) at c.lowest.ensures) (λ v. common_asked c.args.pre_release v c.args.self.now.0 c.args.other.now) (λ written. (written.0, (written.1, tt), tt))
+
 pub returns-clause-lowest : goal.returns-clause-lowest
-returns-clause-lowest c =
-    answered (IsLowestPassing (sets_mean_with c.args.pre_release c.args.self.now.0 c.args.other.now.0)) (lowest_of c.args.pre_release c.args.self.now.0 (c.args.other.now ∷ []) []) c.lowest.result
-    (common_lowest c.args.pre_release c.args.self.now.0 c.args.other.now) (rw (c.as_slice.ensures, c.from_ref.ensures.value) at c.lowest.ensures)
+returns-clause-lowest c = IfOk-weaker c.lowest.result _ _ (λ x h. h.lowest) (found c)
 
 pub returns-clause-no_build : goal.returns-clause-no_build
-returns-clause-no_build c =
-    answered (λ lowest. IfSome lowest HasNoBuild) (lowest_of c.args.pre_release c.args.self.now.0 (c.args.other.now ∷ []) []) c.lowest.result
-    (lowest_no_build c.args.pre_release c.args.self.now.0 (c.args.other.now ∷ []) []) (rw (c.as_slice.ensures, c.from_ref.ensures.value) at c.lowest.ensures)
+returns-clause-no_build c = IfOk-weaker c.lowest.result _ _ (λ x h. h.no_build) (found c)
 
 pub returns-clause-reads_back : goal.returns-clause-reads_back
-returns-clause-reads_back c =
-    answered (λ lowest. AreWritableRanges c.args.self.now.0 → AreWritableRanges c.args.other.now.0 → IfSome lowest ReadsBack) (lowest_of c.args.pre_release c.args.self.now.0 (c.args.other.now ∷ []) []) c.lowest.result
-    (λ own other. lowest_reads_back c.args.pre_release c.args.self.now.0 (c.args.other.now ∷ []) [] own (other, tt) tt) (rw (c.as_slice.ensures, c.from_ref.ensures.value) at c.lowest.ensures)
+returns-clause-reads_back c = IfOk-weaker c.lowest.result _ _ (λ x h some others. h.reads_back (some, others)) (found c)

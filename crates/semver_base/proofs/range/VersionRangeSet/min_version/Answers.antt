@@ -1,24 +1,19 @@
-use Rattle.std.proofs.Common.{[], IfSome}
-use Rattle.semver_base.specs.Candidates.{lowest_of}
-use Rattle.semver_base.specs.LowestVersion.{HasNoBuild, IsLowestPassing}
+use Rattle.std.proofs.Common.{IfOk}
+use Rattle.std.proofs.lemmas.Result.{IfOk-weaker}
 use Rattle.semver_base.specs.Meaning.{set_means_with}
 use Rattle.semver_base.specs.NormalText.{AreWritableRanges}
-use Rattle.semver_base.specs.VersionText.{ReadsBack}
-use Rattle.semver_base.proofs.LowestWritten.{lowest_no_build, lowest_reads_back}
-use Rattle.semver_base.proofs.LowestAsked.{answered, set_lowest}
+use Rattle.semver_base.specs.Intervals.{IsFound}
+use Rattle.semver_base.proofs.FoundVersions.{found_if_ok, set_asked}
 use Rattle.semver_base.proofs.range.VersionRangeSet.min_version.Goals as goal
 
+found : (c : goal.After-lowest) → IfOk c.lowest.result (IsFound (set_means_with c.args.pre_release c.args.self.now.0) (AreWritableRanges c.args.self.now.0))
+found c = found_if_ok _ _ _ _ c.lowest.result (rw c.as_slice.ensures at c.lowest.ensures) (λ v. set_asked c.args.pre_release v c.args.self.now.0) (λ written. (written, tt, tt))
+
 pub returns-clause-lowest : goal.returns-clause-lowest
-returns-clause-lowest c =
-    answered (IsLowestPassing (set_means_with c.args.pre_release c.args.self.now.0)) (lowest_of c.args.pre_release c.args.self.now.0 [] []) c.lowest.result
-    (set_lowest c.args.pre_release c.args.self.now.0) (rw c.as_slice.ensures at c.lowest.ensures)
+returns-clause-lowest c = IfOk-weaker c.lowest.result _ _ (λ x h. h.lowest) (found c)
 
 pub returns-clause-no_build : goal.returns-clause-no_build
-returns-clause-no_build c =
-    answered (λ lowest. IfSome lowest HasNoBuild) (lowest_of c.args.pre_release c.args.self.now.0 [] []) c.lowest.result
-    (lowest_no_build c.args.pre_release c.args.self.now.0 [] []) (rw c.as_slice.ensures at c.lowest.ensures)
+returns-clause-no_build c = IfOk-weaker c.lowest.result _ _ (λ x h. h.no_build) (found c)
 
 pub returns-clause-reads_back : goal.returns-clause-reads_back
-returns-clause-reads_back c =
-    answered (λ lowest. AreWritableRanges c.args.self.now.0 → IfSome lowest ReadsBack) (lowest_of c.args.pre_release c.args.self.now.0 [] []) c.lowest.result
-    (λ own. lowest_reads_back c.args.pre_release c.args.self.now.0 [] [] own tt tt) (rw c.as_slice.ensures at c.lowest.ensures)
+returns-clause-reads_back c = IfOk-weaker c.lowest.result _ _ (λ x h. h.reads_back) (found c)

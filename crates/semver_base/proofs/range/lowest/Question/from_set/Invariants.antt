@@ -1,7 +1,0 @@
-use Rattle.std.proofs.Common.{◌≡◌, take}
-use Rattle.semver_base.specs.Candidates.{from_set, passes}
-use Rattle.semver_base.proofs.range.lowest.Question.from_set.Given as goal
-
--- what was found from the ranges so far
-abbrev pub invariant-loop-range : goal.invariant-loop-range
-invariant-loop-range l = l.lowest ≡ from_set l.self.pre_release (passes l.self.pre_release l.self.own.now l.self.others.now l.self.without.now) l.initial.lowest (take l.range-index l.ranges)
