@@ -18,10 +18,7 @@
  *
  * A call of several arguments of one kind writes `*place` with SEMVER_INVALID_RANGE and SEMVER_INVALID_VERSION: which of them it is,
  * the first or the second of two, or the line of a list, counted from 0. For any other code `*place` stays as it was, unless said
- * otherwise. A line ends at "\n" or "\r\n", and there is none after the last; an empty text has none.
- *
- * The time of semver_min_version, semver_common, semver_common_all, semver_within and semver_equivalent grows with the square of the
- * number of alternatives of all ranges: two of 3,200 each take half a second or less. Limit the length of ranges that strangers write. */
+ * otherwise. A line ends at "\n" or "\r\n", and there is none after the last; an empty text has none. */
 #ifndef SEMVER_H
 #define SEMVER_H
 

@@ -1,6 +1,4 @@
 //! What ranges have in common, exactly: the lowest version with a property, and whether one range contains another.
-//!
-//! The time of these calls grows with the square of the number of alternatives; limit the length of ranges that strangers write.
 
 use crate::calls::{answer, failed, message, text_or_message, with_text, INVALID_RANGE, NO, TAG, YES};
 use crate::externs::*;
