@@ -330,12 +330,16 @@ abbrev verdict : (State → Bool) → Rule → Explored → List (List ℕ)
 verdict f r (fails p) = p ∷ []
 verdict f r (passes ds) = none_if (each_by ds f r)
 
--- nothing if the check passes at each state, else a prefix at which it fails: where a fact is refused, the refusal prints it
+-- where a fact is refused, state `why f r ≡ fails []`: the refusal prints the prefix
+abbrev pub why : (State → Bool) → Rule → Explored
+why f r = explore 20000 f (([], r ∷ []) ∷ []) []
+
+-- nothing if the check passes at each state, else a prefix at which it fails
 abbrev pub failing : (State → Bool) → Rule → List (List ℕ)
-failing f r = verdict f r (explore 20000 f (([], r ∷ []) ∷ []) [])
+failing f r = verdict f r (why f r)
 
 pub each : (f : State → Bool) (r : Rule) → failing f r ≡ [] → (p : List ℕ) → f (after (r ∷ []) p) ≡ true
-each f r h p = go (explore 20000 f (([], r ∷ []) ∷ []) []) h
+each f r h p = go (why f r) h
   where
     holds_if : (b : Bool) → none_if b ≡ [] → b ≡ true
     holds_if true h = refl
