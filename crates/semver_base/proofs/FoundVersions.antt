@@ -1,20 +1,23 @@
 -- What is found of several intervals, and of what is asked.
 use Rattle.std.proofs.Common.{◌≡◌, ◌&&◌, ◌||◌, ◌<◌, ◌≤◌, ◌+◌, ℕ, arith, Bool, true, false, not, List, [], ◌∷◌, ◌++◌, get_or, length, take, option_to_list, Option, Some, None, Result, refl, sym, subst, ap, ap₂, ◌∙◌, inl, inr, IfOk, IfSome}
-use Rattle.std.proofs.lemmas.Bool.{or_cases, or_left, or_right}
+use Rattle.std.proofs.lemmas.Bool.{or_cases, or_left, or_parts, or_right}
 use Rattle.std.proofs.lemmas.List.Elements.{All-append, All-from_recursion, All-get_or, All-nil, All-same}
 use Rattle.std.proofs.lemmas.List.Folds.{list_all_more, list_any-append, list_any_more}
 use Rattle.std.proofs.lemmas.Result.{IfOk-weaker}
-use Rattle.std.proofs.Math.Bool.{and-true, or-false}
-use Rattle.std.specs.List.{list_all}
-use Rattle.semver_base.specs.Intervals.{all_match, lesser, passes, some_means}
+use Rattle.std.proofs.Math.Bool.{and-false, and-true, or-false}
+use Rattle.std.specs.List.{list_all, list_any}
+use Rattle.semver_base.specs.Intervals.{has_pre_bound, is_pre_bound, all_match, lesser, passes, some_means}
 use Rattle.semver_base.specs.Intervals.{flag_of, hold, is_of, is_within, AreWritableIntervals, AreWritableSets, IsFound, IsWritableInterval}
 use Rattle.semver_base.specs.LowestVersion.{HasNoBuild, IsLowestPassing, IsReadable, all_mean_with, set_means_alone_with, sets_mean_with}
-use Rattle.semver_base.specs.Meaning.{any_alternatives, is_release, range_means_with, set_means_with}
+use Rattle.semver_base.specs.Meaning.{any_alternatives, bounds_hold, has_pre_of, is_release, range_means_with, set_means_with}
 use Rattle.semver_base.specs.NormalText.{AreWritableRanges, IsWritableRange}
 use Rattle.semver_base.specs.OrderLaws.{same_where}
 use Rattle.semver_base.specs.VersionText.{IsWritable, ReadsBack}
 use Rattle.semver_base.specs.declared.version.Version.{Version}
 use Rattle.semver_base.specs.declared.range.PreRelease.{PreRelease}
+use Rattle.semver_base.specs.declared.range.PreRelease.TheVariants.{Restricted}
+use Rattle.semver_base.specs.declared.range.RangeBound.{RangeBound}
+use Rattle.semver_base.specs.declared.range.RangeBound.TheVariants as bound
 use Rattle.semver_base.specs.declared.range.VersionRange.{VersionRange}
 use Rattle.semver_base.specs.declared.range.VersionRangeSet.{VersionRangeSet}
 use Rattle.semver_base.specs.declared.range.intervals.Group.{Group}
@@ -155,6 +158,27 @@ gaps_pass g own others without start inside out none h k v = go (is_of g v) (k v
     go : (b : Bool) → (b ≡ true → hold out v ≡ not (passes (flag_of g) own others without v)) → (b && hold inside v) ≡ (b && passes (flag_of g) own others without v)
     go false k = refl
     go true k = h v ∙ ap₂ (λ (is : List Interval) (a : Bool). hold is v || not a) none (k refl) ∙ twice (passes (flag_of g) own others without v)
+
+-- without a pre-release bound only releases pass
+none_of : (x : RangeBound) (v : Version) → is_pre_bound x ≡ false → has_pre_of x v ≡ false
+none_of bound.Unbounded v h = refl
+none_of (bound.Version b) v h = rw h refl
+
+no_pre_means : (ranges : List VersionRange) → list_any has_pre_bound ranges ≡ false → (v : Version) → is_release v ≡ false → some_means Restricted ranges v ≡ false
+no_pre_means [] h v pre = refl
+no_pre_means (r ∷ rs) h v pre =
+    let parts = or_parts (has_pre_bound r) (list_any has_pre_bound rs) h in
+    let bounds = or_parts (is_pre_bound r.start) (is_pre_bound r.end) parts.0 in
+    let this : range_means_with Restricted r v ≡ false = rw (pre, none_of r.start v bounds.0, none_of r.end v bounds.1) (and-false (bounds_hold r v && true)) in
+    ap₂ (λ (a b : Bool). a || b) this (no_pre_means rs parts.1 v pre)
+
+pub releases_found : (own : List VersionRange) (others : List VersionRangeSet) (without : List VersionRange) (W : Type 0) (x : Option Version) → list_any has_pre_bound own ≡ false
+    → IsFound (λ v. is_release v && passes Restricted own others without v) W x → IsFound (passes Restricted own others without) W x
+releases_found own others without W x none = found_as (λ v. is_release v && passes Restricted own others without v) (passes Restricted own others without) W W x (λ v. go v (is_release v) refl) (λ own. own)
+  where
+    go : (v : Version) (r : Bool) → is_release v ≡ r → (r && passes Restricted own others without v) ≡ passes Restricted own others without v
+    go v true e = refl
+    go v false e = rw (no_pre_means own none v e) refl
 
 -- a release passes, or a pre-release
 of_either : (r p : Bool) → ((r && p) || (not r && p)) ≡ p

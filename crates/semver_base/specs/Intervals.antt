@@ -1,5 +1,5 @@
 -- What ranges match, as intervals of versions between two cuts. A cut lies between versions in the order of precedence.
-use Rattle.std.specs.Prelude.{◌≡◌, ℕ, List, [], ◌∷◌, ◌++◌, ◌+◌, ◌&&◌, Bool, not, true, false, Option, Some, None, if◌then◌else◌, IfSome}
+use Rattle.std.specs.Prelude.{◌≡◌, ℕ, List, [], ◌∷◌, ◌++◌, ◌+◌, ◌&&◌, ◌||◌, Bool, not, true, false, Option, Some, None, if◌then◌else◌, IfSome}
 use Rattle.std.specs.List.{list_all, list_any, All, AllByRecursion}
 use Rattle.std.specs.Ordering.{is_le, nat_cmp, on, then_cmp}
 use Rattle.std.specs.declared.cmp.Ordering.{Ordering}
@@ -14,6 +14,8 @@ use Rattle.semver_base.specs.VersionText.{IsWritable, ReadsBack}
 use Rattle.semver_base.specs.declared.version.Version.{Version}
 use Rattle.semver_base.specs.declared.range.PreRelease.{PreRelease}
 use Rattle.semver_base.specs.declared.range.PreRelease.TheVariants.{Restricted, Admitted}
+use Rattle.semver_base.specs.declared.range.RangeBound.{RangeBound}
+use Rattle.semver_base.specs.declared.range.RangeBound.TheVariants as bound
 use Rattle.semver_base.specs.declared.range.VersionRange.{VersionRange}
 use Rattle.semver_base.specs.declared.range.VersionRangeSet.{VersionRangeSet}
 use Rattle.semver_base.specs.declared.range.intervals.Cut.{Cut}
@@ -194,6 +196,14 @@ filtered test None = None
 filtered test (Some v) = if test v then Some v else None
 
 -- ---- groups of versions
+
+-- a bound is a pre-release, so that the range may match others of its numbers
+abbrev pub is_pre_bound : RangeBound → Bool
+is_pre_bound bound.Unbounded = false
+is_pre_bound (bound.Version b) = not (is_release b.version)
+
+abbrev pub has_pre_bound : VersionRange → Bool
+has_pre_bound range = is_pre_bound range.start || is_pre_bound range.end
 
 -- of all versions where pre-releases are admitted; else of releases, or of pre-releases
 abbrev pub flag_of : Group → PreRelease

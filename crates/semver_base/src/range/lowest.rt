@@ -6,8 +6,8 @@
 //! the lowest in the gaps that these leave. So the time to sort the intervals decides, `n log n` in the number of all ranges.
 
 ghost use Rattle.std.specs.Prelude.{◌≡◌, ◌∷◌, ◌↔◌, ◌&&◌, ◌||◌, not, [], IfOk, IfSome, IsTrue, is_some, true};
-ghost use Rattle.std.specs.List.{AllByRecursion};
-ghost use Rattle.semver_base.specs.Intervals.{all_match, flag_of, hold, is_of, is_within, passes, some_means, AreWritableIntervals, AreWritableSets, IsFound, IsWhole, IsWritableInterval};
+ghost use Rattle.std.specs.List.{list_any, AllByRecursion};
+ghost use Rattle.semver_base.specs.Intervals.{all_match, flag_of, has_pre_bound, hold, is_of, is_pre_bound, is_within, passes, some_means, AreWritableIntervals, AreWritableSets, IsFound, IsWhole, IsWritableInterval};
 ghost use Rattle.semver_base.specs.Containment.{AreEquivalent, IsWithin, ReportsEquivalent, ReportsWithin};
 ghost use Rattle.semver_base.specs.LowestVersion.{HasNoBuild, IsLowestPassing, DecidesSome, PassesSome, all_mean_with, set_means_alone_with, sets_mean_with};
 ghost use Rattle.semver_base.specs.Meaning.{admits_pre, is_pre_match, range_means_with, set_means_with};
@@ -140,6 +140,26 @@ fn lowest_of<'a>(
     intervals::lowest(alloc, inside.as_slice(), group)
 }
 
+impl RangeBound {
+    fn is_pre(&self) -> bool
+        ensures { result ≡ is_pre_bound self.now }
+    {
+        match self {
+            RangeBound::Unbounded => false,
+            RangeBound::Version(bound) => !bound.version.pre.is_empty(),
+        }
+    }
+}
+
+// Whether some range may match pre-releases by npm's rule.
+fn has_pre_bound(ranges: &[VersionRange]) -> bool
+    ensures { result ≡ list_any has_pre_bound ranges.now }
+{
+    ranges
+        .iter()
+        .any(|range| range.start.is_pre() || range.end.is_pre())
+}
+
 impl Question<'_> {
     // The lowest version that passes.
     fn lowest(&self, alloc: Global) -> Result<Option<Version>, AllocError>
@@ -154,6 +174,9 @@ impl Question<'_> {
             PreRelease::Admitted => lowest_of(alloc, *self, Group::Every, whole),
             PreRelease::Restricted => {
                 let release = lowest_of(alloc, *self, Group::Releases, whole)?;
+                if !has_pre_bound(self.own) {
+                    return Ok(release);
+                }
                 let pre = lowest_of(alloc, *self, Group::PreReleases, whole)?;
                 Ok(lesser(release, pre))
             }
