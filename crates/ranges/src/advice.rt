@@ -1,10 +1,9 @@
 //! What is legal in a range, and surely not meant.
 
-use crate::explaining::{Numbers, only_version};
 use answers::asking::{Answer, Problem};
 use answers::explained::{Meaning, Piece};
 use answers::questions::version_outside;
-use deno_semver::{PreRelease, RangeBound};
+use deno_semver::PreRelease;
 use semver_req::common::values::Flavour;
 use std::alloc::{AllocError, Global};
 
@@ -29,16 +28,7 @@ fn of_piece(alloc: Global, piece: &Piece, is_only: bool) -> Result<Option<String
         let hint = "matches every 0.x, though each may break: name its minor version";
         format!(in alloc; "`{text}` {hint}")
     } else {
-        match &matches.range.start {
-            RangeBound::Version(start)
-                if !start.version.pre.is_empty()
-                    && matches.pre_of_start
-                    && only_version(&matches.range).is_none() => {
-                let which = Numbers(&start.version);
-                format!(in alloc; "of pre-releases, `{text}` matches only those of {which}")
-            }
-            _ => return Ok(None),
-        }
+        return Ok(None);
     };
     Ok(Some(warning?))
 }

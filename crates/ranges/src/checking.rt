@@ -4,7 +4,7 @@ use crate::advice::warnings;
 use crate::errors::{add_first, errors_at_end, errors_of, print_errors};
 use crate::explaining::has_left_out;
 use answers::asking::Problem;
-use answers::explained::{Explanation, Piece, explain};
+use answers::explained::{Explanation, Meaning, Piece, explain};
 use answers::object::Object;
 use clap::ArgMatches;
 use deno_semver::PreRelease;
@@ -204,7 +204,7 @@ impl Report<'_> {
             Some(errors) => {
                 let grammar = match entry.kind {
                     Kind::Specifier => Flavour::Specifier,
-                    Kind::Range | Kind::Mistake(_) => Flavour::Npm,
+                    Kind::Range | Kind::Dependency | Kind::Mistake(_) => Flavour::Npm,
                 };
                 let text = entry.text.as_str();
                 print_errors(&mut console.out, style, text, errors, Some(grammar))
@@ -214,7 +214,18 @@ impl Report<'_> {
     }
 }
 
-// Reports the alternatives that npm leaves out, and what is odd about the others.
+// Whether npm keeps the alternative: it passes over one that isn't a range, and over words with a `,`.
+fn is_kept(piece: &Piece) -> bool {
+    let text = piece.text.as_str().trim();
+    match piece.meaning {
+        Meaning::Range(_) => {
+            text.is_empty() || text.split_whitespace().any(|word| !word.contains(','))
+        }
+        Meaning::LeftOut(_) => false,
+    }
+}
+
+// Reports what npm refuses or passes over, and what is odd about the alternatives.
 fn warn<O: Write, E: Write>(
     console: &mut Console<O, E>,
     report: &mut Report<'_>,
@@ -222,25 +233,37 @@ fn warn<O: Write, E: Write>(
     range: &str,
     pieces: &[Piece],
 ) -> Result<(), Stop> {
+    let is_refused = entry.kind == Kind::Dependency && !pieces.iter().any(is_kept);
+    let level = if is_refused {
+        Level::Error
+    } else {
+        Level::Warning
+    };
     if has_left_out(pieces) {
         let errors = errors_at_end(console.alloc, Flavour::Npm, entry.text.as_str(), range)?;
-        let message = "npm leaves out an alternative that isn't a range";
+        let message = if is_refused {
+            "npm refuses it: no alternative is a range"
+        } else {
+            "npm leaves out an alternative that isn't a range"
+        };
         let finding = Finding {
             errors: Some(&errors),
-            ..Finding::new(Level::Warning, message)
+            ..Finding::new(level, message)
         };
         report.add(console, entry, finding)?;
     }
-    // node-semver, and so npm, reads these in another way.
-    let warning = if range.trim_end().ends_with("||") {
-        Some("node-semver reads what follows the last `||` as every version")
+    // npm, and so node-semver, reads these in another way.
+    let message = if range.contains(',') && is_refused {
+        Some("npm refuses `,`: write a space")
     } else if range.contains(',') || range.contains("&&") {
         Some("node-semver rejects `,` and `&&`: write a space")
+    } else if range.trim_end().ends_with("||") {
+        Some("node-semver reads what follows the last `||` as every version")
     } else {
         None
     };
-    if let Some(warning) = warning {
-        report.add(console, entry, Finding::new(Level::Warning, warning))?;
+    if let Some(message) = message {
+        report.add(console, entry, Finding::new(level, message))?;
     }
     let warnings = warnings(console.alloc, pieces)?;
     for warning in warnings.iter() {
@@ -348,7 +371,7 @@ fn check_entries<O: Write, E: Write>(
         }
         position.index = entry.start;
         match entry.kind {
-            Kind::Range => {
+            Kind::Range | Kind::Dependency => {
                 if let Some(range) = range_of(entry.text.as_str()) {
                     check_range(console, report, entry, Flavour::Npm, range)?;
                 }

@@ -43,8 +43,8 @@ fn bound<W: fmt::Write>(
     write!(f, "{operator}{equal}{}", bound.version)
 }
 
-/// The version at which the range both starts and ends.
-pub fn only_version(range: &VersionRange) -> Option<&Version> {
+// The version at which the range both starts and ends.
+fn only_version(range: &VersionRange) -> Option<&Version> {
     match (&range.start, &range.end) {
         (RangeBound::Version(start), RangeBound::Version(end)) if start.version == end.version => {
             Some(&start.version)
@@ -53,9 +53,9 @@ pub fn only_version(range: &VersionRange) -> Option<&Version> {
     }
 }
 
-/// The three numbers of a version.
+// The three numbers of a version.
 #[derive(Clone, Copy)]
-pub struct Numbers<'a>(pub &'a Version);
+struct Numbers<'a>(&'a Version);
 
 impl fmt::Display for Numbers<'_> {
     fn fmt<W: fmt::Write>(&self, f: &mut fmt::Formatter<W>) -> fmt::Result {

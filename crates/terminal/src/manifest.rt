@@ -9,6 +9,8 @@ use std::alloc::{AllocError, Global};
 pub enum Kind {
     /// A range by npm's grammar.
     Range,
+    /// What a package manager installs: such a range, a tag or another protocol.
+    Dependency,
     /// A specifier, of which those of npm and JSR name a package.
     Specifier,
     /// No text: the file should have something else here, as the message says.
@@ -29,10 +31,11 @@ pub struct Entry {
 // What the values are that are so many objects deep in a section of the file.
 fn kind_at(section: &str, depth: usize) -> Option<Kind> {
     match (section, depth) {
-        ("dependencies" | "devDependencies" | "peerDependencies", 1) => Some(Kind::Range),
-        ("optionalDependencies" | "engines" | "catalog", 1) => Some(Kind::Range),
-        ("catalogs", 2) => Some(Kind::Range),
-        ("overrides" | "resolutions", 1..) => Some(Kind::Range),
+        ("dependencies" | "devDependencies" | "peerDependencies", 1) => Some(Kind::Dependency),
+        ("optionalDependencies" | "catalog", 1) => Some(Kind::Dependency),
+        ("catalogs", 2) => Some(Kind::Dependency),
+        ("overrides" | "resolutions", 1..) => Some(Kind::Dependency),
+        ("engines", 1) => Some(Kind::Range),
         ("imports", 1) | ("scopes", 2) => Some(Kind::Specifier),
         (_, _) => None,
     }
@@ -98,7 +101,12 @@ impl Scanner<'_> {
         if self.is_value && !c.is_ascii_whitespace() {
             self.is_value = c == '"';
             let (section, depth) = self.place();
-            let is_range_at = |depth: usize| kind_at(section, depth) == Some(Kind::Range);
+            let is_range_at = |depth: usize| {
+                matches!(
+                    kind_at(section, depth),
+                    Some(Kind::Range | Kind::Dependency)
+                )
+            };
             let has_ranges = is_range_at(depth.saturating_add(1))
                 || is_range_at(depth.saturating_add(2));
             let mistake = match c {
