@@ -276,17 +276,39 @@ fn warn<O: Write, E: Write>(
     Ok(())
 }
 
-// The text of a range: what follows the name in `npm:name@range`, or the whole text; none if it is another protocol.
+// What follows the `@` behind a name, whose scope begins with `@`, too.
+fn behind_name(text: &str) -> Option<&str> {
+    let name = text.strip_prefix('@').unwrap_or(text);
+    let (_, range) = name.rsplit_once('@')?;
+    Some(range)
+}
+
+fn is_path(text: &str) -> bool {
+    text.starts_with(['.', '/', '$'].as_slice())
+}
+
+// The range of a text: the whole text, or what follows the name in `npm:name@range`, `jsr:` or `workspace:`, with a name or without, or
+// `#semver:`; none if it is another protocol.
 fn range_of(text: &str) -> Option<&str> {
-    if let Some(alias) = text.strip_prefix("npm:") {
-        // A scope begins with `@`, too.
-        let name = alias.strip_prefix('@').unwrap_or(alias);
-        let (_, range) = name.rsplit_once('@')?;
+    if let Some(name) = text.strip_prefix("npm:") {
+        return behind_name(name);
+    }
+    if let Some(range) = text
+        .strip_prefix("jsr:")
+        .or_else(|| text.strip_prefix("workspace:"))
+    {
+        return match range {
+            "^" | "~" => None,
+            _ if is_path(range) => None,
+            _ if range.contains(['@', '/'].as_slice()) => behind_name(range),
+            _ => Some(range),
+        };
+    }
+    if let Some((_, range)) = text.rsplit_once("#semver:") {
         return Some(range);
     }
-    let is_path = text.starts_with(['.', '/', '$'].as_slice());
     let is_repository = text.contains('/') && !text.contains(' ');
-    if is_path || is_repository || is_protocol(text) {
+    if is_path(text) || is_repository || is_protocol(text) {
         None
     } else {
         Some(text)

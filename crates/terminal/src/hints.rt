@@ -7,17 +7,22 @@ use semver_req::error_places::pieces::InvalidPiece;
 use std::fmt;
 
 // What package.json has in place of a range.
-const PROTOCOLS: [&str; 11] = [
+const PROTOCOLS: [&str; 16] = [
     "workspace:",
     "catalog:",
     "file:",
     "link:",
     "portal:",
     "patch:",
+    "exec:",
     "npm:",
+    "jsr:",
     "git+",
     "git:",
     "github:",
+    "gitlab:",
+    "bitbucket:",
+    "gist:",
     "http",
 ];
 
