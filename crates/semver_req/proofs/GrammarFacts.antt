@@ -1,5 +1,5 @@
 -- With which bytes the texts of requirements begin and go on, what can't follow them, and which have none in common: computed of each grammar's rule.
-use Rattle.std.proofs.Common.{◌≡◌, ℕ, Bool, true, false, ◌||◌, ◌==◌, List, [], ◌∷◌, ◌++◌, refl, arith}
+use Rattle.std.proofs.Common.{◌≡◌, ℕ, Bool, true, false, not, ◌||◌, ◌==◌, List, [], ◌∷◌, ◌++◌, refl, arith}
 use Rattle.std.specs.Char.{is_ascii_digit}
 use Rattle.std.specs.List.{list_all}
 use Rattle.std.proofs.lemmas.Bool.{and_parts, both_ways}
@@ -7,7 +7,7 @@ use Rattle.std.proofs.lemmas.Bool.Decides.{nat_tests}
 use Rattle.semver_base.specs.Comparators.{Bare, Caret, Comparator, Hyphen, OfPrimitive, Tilde}
 use Rattle.semver_base.specs.Grammar.{After, Either, that, Listed, Optional, Prefixed}
 use Rattle.semver_base.specs.GrammarLaws.{Apart, NonEmpty}
-use Rattle.semver_base.specs.ByteLaws.{BeginsBy, Disjoint, GoesBy, begins_from_made, goes_from_made}
+use Rattle.semver_base.specs.ByteLaws.{BeginsBy, Disjoint, GoesBy, MadeOf, begins_from_made, goes_from_made}
 use Rattle.semver_base.specs.Lexical.{IsByte, IsSomeWhitespace, IsWhitespace}
 use Rattle.semver_base.specs.ListLaws.{IsListing}
 use Rattle.semver_base.specs.ValueLaws.{Never, all_second}
@@ -23,7 +23,7 @@ use Rattle.semver_req.specs.declared.common.values.Flavour.{Flavour}
 use Rattle.semver_req.specs.declared.common.values.Flavour.TheVariants.{Npm, Normal, Specifier}
 use Rattle.semver_req.proofs.Grammars as rule
 use Rattle.semver_req.proofs.GrammarTexts.{InComparator, InComponent, InPartial, IsCaretOf, IsTildeOf, bare_described, bare_partial_described, caret_described, comparator_described, component_described, equals_described, filled_described, hyphen_described, hyphened_described, ignored_described, kind_described, led_described, list_operator_described, loose_digits, operators_described, partial_described, primitive_described, separator_described, tilde_described, tildes_described, v_described}
-use Rattle.semver_req.proofs.RuleFacts.{IsUnder, apart_from, begins_in, goes_in, begins_first, is_apart, is_going, made_of_all, marked, never_both, no_common, one_mark, plain, some_by, under}
+use Rattle.semver_req.proofs.RuleFacts.{IsUnder, apart_from, begins_in, goes_in, begins_first, is_apart, is_going, made_in, made_of_all, marked, never_both, no_common, one_mark, plain, some_by, under}
 use Rattle.semver_req.proofs.RuleLaws.{made, overlap_there}
 use Rattle.semver_req.proofs.RuleTexts.{Any, Describes, Each, after_described, before_described, bytes, either_described, listed_described, prefixed_described}
 use Rattle.semver_req.proofs.Rules.{Bytes, Rule, all_bytes, alt, byte, firsts, has, Holds, is_void, letter, many, Many, minus, no_more, nullable, one_more, optional, overlap, seq, steps}
@@ -336,3 +336,27 @@ pub filled_no_whitespace : (f : Flavour) → Never (IsFilled f) IsWhitespace
 filled_no_whitespace Npm = never_both (filled_under Npm npm) whitespace_under refl
 filled_no_whitespace Normal = never_both (filled_under Normal normal) whitespace_under refl
 filled_no_whitespace Specifier = record { both = λ t cs v h k. h }
+
+-- no alternative has a bar
+abbrev pub is_no_bar : ℕ → Bool
+is_no_bar b = not (b == 124)
+
+abbrev bar_free : Bytes
+bar_free = (0, 124) ∷ ((125, 256) ∷ [])
+
+bar_free_passes : (x : ℕ) → has bar_free x ≡ true → is_no_bar x ≡ true
+bar_free_passes x h = grind (arith, nat_tests)
+
+pub whitespace_no_bar : MadeOf IsWhitespace is_no_bar
+whitespace_no_bar = made_in whitespace_under is_no_bar bar_free bar_free_passes refl
+
+pub filled_no_bar : (f : Flavour) → IsCutting f → MadeOf (IsFilled f) is_no_bar
+filled_no_bar Npm npm = made_in (filled_under Npm npm) is_no_bar bar_free bar_free_passes refl
+filled_no_bar Normal normal = made_in (filled_under Normal normal) is_no_bar bar_free bar_free_passes refl
+filled_no_bar Specifier cuts = elim cuts [ ]
+
+-- no whitespace goes on as an alternative begins
+pub whitespace_filled : (f : Flavour) → IsCutting f → Apart IsWhitespace (IsFilled f)
+whitespace_filled Npm npm = apart_from whitespace_under (filled_under Npm npm) refl
+whitespace_filled Normal normal = apart_from whitespace_under (filled_under Normal normal) refl
+whitespace_filled Specifier cuts = elim cuts [ ]

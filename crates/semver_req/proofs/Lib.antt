@@ -64,6 +64,8 @@ pub mod Endings
 pub mod ViableParts
 pub mod Alternatives
 pub mod KindTexts
+pub mod WholeTexts
+pub mod TrimmedWholes
 mod ErrorCauses
 pub mod LargeBounds
 pub mod CausesWithin

@@ -59,6 +59,7 @@ use Rattle.semver_req.specs.declared.range_set_or_tag.pieces.RangeOrInvalid.TheV
 use Rattle.semver_req.specs.declared.range_set_or_tag.RangeSetOrTag.{RangeSetOrTag}
 use Rattle.semver_req.specs.declared.range_set_or_tag.RangeSetOrTag.TheVariants as inner
 use Rattle.semver_req.specs.Parsers.{IsCutReading, IsReading}
+use Rattle.semver_req.proofs.GrammarFacts.{is_no_bar}
 use Rattle.semver_req.proofs.Components.{component_read, component_wildcard, wildcard_no_digit}
 use Rattle.semver_req.proofs.Fitting.{comparator_all, fitting, numbers_all, whole_front}
 use Rattle.semver_req.proofs.Folding.{upper_ends}
@@ -71,7 +72,7 @@ use Rattle.semver_req.proofs.Stabilizing.{less_stays}
 use Rattle.semver_req.proofs.SpecifierRanges.{range_reading}
 use Rattle.semver_req.proofs.Star.{star_alternatives, star_any}
 use Rattle.semver_req.proofs.Wider.{npm_led, pieces_wider}
-use Rattle.semver_req.proofs.WrittenSets.{is_no_bar, no_bar, one_whitespace}
+use Rattle.semver_req.proofs.WrittenSets.{no_bar, one_whitespace}
 
 -- ---- numbers
 

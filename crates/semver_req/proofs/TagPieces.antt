@@ -27,11 +27,11 @@ front_starts (c ∷ cs) ds e = elim (cases_Bool (is_whitespace c)) [
 ]
 
 module _ (text : List ℕ) (utf8 : IsUtf8 text) where
-  none_skipped : trim_start text ≡ text → skip_leading_whitespace (chars text) ≡ chars text
+  pub none_skipped : trim_start text ≡ text → skip_leading_whitespace (chars text) ≡ chars text
   unfolding trim_start
   none_skipped e = encodes_same _ _ (e ∙ sym (encodes-chars text utf8))
 
-  start_same : skip_leading_whitespace (chars text) ≡ chars text → trim_start text ≡ text
+  pub start_same : skip_leading_whitespace (chars text) ≡ chars text → trim_start text ≡ text
   unfolding trim_start
   start_same e = ap encode_utf8_all e ∙ encodes-chars text utf8
 

@@ -45,7 +45,7 @@ rest_chars (c ∷ cs) rest u =
 pub behind_whitespace : (a rest : List ℕ) → IsUtf8 (a ++ rest) → IsWhitespace a tt → IsUtf8 rest
 behind_whitespace a rest u h = rest_text h.0 rest (rw (← h.1) at u)
 
-start_skipped : (a rest : List ℕ) → IsUtf8 (a ++ rest) → IsWhitespace a tt → trim_start (a ++ rest) ≡ trim_start rest
+pub start_skipped : (a rest : List ℕ) → IsUtf8 (a ++ rest) → IsWhitespace a tt → trim_start (a ++ rest) ≡ trim_start rest
 unfolding trim_start
 start_skipped a rest u h =
     let some : IsUtf8 (encode_utf8_all h.0 ++ rest) = rw (← h.1) at u in
@@ -78,11 +78,29 @@ module _ (front : List ℕ) (last : ℕ) (b : List ℕ) (u : IsUtf8 (front ++ (l
   end_chars : (h : IsWhitespace b tt) → chars (front ++ (last ∷ b)) ≡ chars front ++ (last ∷ h.0)
   end_chars h = chars-append front (last ∷ b) front_text ∙ ap (λ t. chars front ++ t) (chars_past_char (last ∷ b) b last last_text last_is ∙ ap (λ t. last ∷ t) (sym (chars_from_encodes h.0 b (IsUtf8-past_char (last ∷ b) b last last_text last_is) h.1)))
 
-  end_dropped : is_whitespace last ≡ false → IsWhitespace b tt → trim_end (front ++ (last ∷ b)) ≡ front ++ (last ∷ [])
+  pub end_dropped : is_whitespace last ≡ false → IsWhitespace b tt → trim_end (front ++ (last ∷ b)) ≡ front ++ (last ∷ [])
   unfolding trim_end
   end_dropped other h =
       ap encode_utf8_all (ap drop_trailing_whitespace (end_chars h) ∙ drop_last (chars front) last h.0 other h.2)
       ∙ (encodes-append (chars front) (last ∷ []) ∙ ap (λ t. t ++ encode_utf8_all (last ∷ [])) (encodes-chars front front_text) ∙ ap (λ t. front ++ (t ++ [])) (encode_ascii last low))
+
+-- whitespace before a text of which something is left
+dropped_behind : (cs ds es : List ℕ) (e : ℕ) → drop_trailing_whitespace ds ≡ e ∷ es → drop_trailing_whitespace (cs ++ ds) ≡ cs ++ (e ∷ es)
+dropped_behind [] ds es e h = h
+dropped_behind (c ∷ cs) ds es e h =
+    let size = length-append cs (e ∷ es) in
+    rw (dropped_behind cs ds es e h) (stays (is_whitespace c) _ c _ (grind (arith, nat_tests, size)))
+
+pub end_behind : (a rest : List ℕ) → IsUtf8 (a ++ rest) → IsWhitespace a tt → 0 < length (trim_end rest) → trim_end (a ++ rest) ≡ a ++ trim_end rest
+unfolding trim_end
+end_behind a rest u h some = go (drop_trailing_whitespace (chars rest)) refl some
+  where
+    go : (ds : List ℕ) → drop_trailing_whitespace (chars rest) ≡ ds → 0 < length (trim_end rest) → trim_end (a ++ rest) ≡ a ++ trim_end rest
+    go [] is some = absurd (omega (arith, some, ap (λ l. length (encode_utf8_all l)) is))
+    go (d ∷ ds) is some =
+        let white : IsUtf8 (encode_utf8_all h.0 ++ rest) = rw (← h.1) at u in
+        ap encode_utf8_all (ap (λ t. drop_trailing_whitespace (chars (t ++ rest))) (sym h.1) ∙ (ap drop_trailing_whitespace (rest_chars h.0 rest white) ∙ dropped_behind h.0 (chars rest) ds d is))
+        ∙ (encodes-append h.0 (d ∷ ds) ∙ (ap (λ t. t ++ encode_utf8_all (d ∷ ds)) h.1 ∙ ap (λ t. a ++ encode_utf8_all t) (sym is)))
 
 -- ---- the text within
 
@@ -106,13 +124,20 @@ skipped (c ∷ cs) = elim (cases_Bool (is_whitespace c)) [
   | inr other ↦ record { white = []; list_is = rw other refl; are_white = tt }
 ]
 
+-- the whitespace with which a text begins
+pub begun_white : (text : List ℕ) → IsUtf8 text → (ahead : List ℕ) × (text ≡ ahead ++ trim_start text) × IsWhitespace ahead tt
+unfolding trim_start
+begun_white text u =
+    let k = skipped (chars text) in
+    (encode_utf8_all k.white, sym (encodes-chars text u) ∙ (ap encode_utf8_all k.list_is ∙ encodes-append k.white (skip_leading_whitespace (chars text))), (k.white, refl, k.are_white))
+
 pub around : (text : List ℕ) → IsUtf8 text → IsAround text
 unfolding trim_start
 around text u =
-    let k = skipped (chars text) in
-    let ahead = encode_utf8_all k.white in
-    let whole : text ≡ ahead ++ trim_start text = sym (encodes-chars text u) ∙ (ap encode_utf8_all k.list_is ∙ encodes-append k.white (skip_leading_whitespace (chars text))) in
-    let white : IsWhitespace ahead tt = (k.white, refl, k.are_white) in
+    let k = begun_white text u in
+    let ahead = k.0 in
+    let whole : text ≡ ahead ++ trim_start text = k.1 in
+    let white : IsWhitespace ahead tt = k.2 in
     let some : IsUtf8 (trim_start text) = behind_whitespace ahead (trim_start text) (rw whole at u) white in
     let are : chars (trim_start text) ≡ skip_leading_whitespace (chars text) = encodes_same _ _ (encodes-chars (trim_start text) some) in
     let again : trim_start (trim_start text) ≡ trim_start text = ap encode_utf8_all (ap skip_leading_whitespace are ∙ skipped_twice (chars text)) in

@@ -109,11 +109,11 @@ in_list [] h = refl
 in_list (c ∷ cs) h = and_from (numbers_fit c) (list_all numbers_fit cs) (in_comparator c h.0) (in_list cs h.1)
 
 module _ (R : List ℕ → List Comparator → Type 0) {text : List ℕ} (cs : List Comparator) where
-  unsized : (sizes : Sizes) → Sized sizes R text cs → R text cs × AreOf sizes cs
+  pub unsized : (sizes : Sizes) → Sized sizes R text cs → R text cs × AreOf sizes cs
   unsized Any h = (h, free_list cs)
   unsized Fitting h = (h.0, list_in cs h.1)
 
-  sized : (sizes : Sizes) → R text cs → AreOf sizes cs → Sized sizes R text cs
+  pub sized : (sizes : Sizes) → R text cs → AreOf sizes cs → Sized sizes R text cs
   sized Any h i = h
   sized Fitting h i = (h, in_list cs i)
 

@@ -1,6 +1,6 @@
 -- The text of a set of ranges is split into the texts of its ranges, each of which npm's and the normalized parser parse to
 -- its shortest form.
-use Rattle.std.proofs.Common.{◌≡◌, ◌≤◌, ◌<◌, ℕ, suc, Bool, true, false, List, [], ◌∷◌, ◌++◌, length, map, refl, sym, ap, ◌∙◌, arith, inl, append-nil, append_assoc, length-append, ◌==◌, codes, if◌then◌else◌, not}
+use Rattle.std.proofs.Common.{◌≡◌, ◌≤◌, ◌<◌, ℕ, suc, Bool, true, false, List, [], ◌∷◌, ◌++◌, length, map, refl, sym, ap, ◌∙◌, arith, inl, append-nil, append_assoc, length-append, codes, if◌then◌else◌}
 use Rattle.std.specs.Char.{is_ascii}
 use Rattle.std.specs.List.{AllByRecursion, list_all}
 use Rattle.std.specs.Str.{trim}
@@ -31,6 +31,7 @@ use Rattle.semver_req.specs.Pieces.{IsCutting, npm, normal, AreMorePieces, last_
 use Rattle.semver_req.specs.Rereading.{IsOnePiece}
 use Rattle.semver_req.specs.declared.common.values.Flavour.{Flavour}
 use Rattle.semver_req.specs.declared.common.values.Flavour.TheVariants.{Npm, Normal}
+use Rattle.semver_req.proofs.GrammarFacts.{is_no_bar}
 use Rattle.semver_req.proofs.WrittenComparators.{AreWritten, one, more, IsWritten, ending_written, shortest_written}
 
 -- ---- pieces
@@ -74,9 +75,6 @@ module _ (f : Flavour) (cut : IsCutting f) (r : VersionRange) (h : IsWritableRan
 
 -- ---- their bytes
 
-abbrev pub is_no_bar : ℕ → Bool
-is_no_bar b = not (b == 124)
-
 solid_no_bar : (b : ℕ) → is_solid_byte b ≡ true → is_no_bar b ≡ true
 solid_no_bar b h = grind (arith, nat_tests)
 
@@ -112,14 +110,14 @@ module _ (r : VersionRange) (h : IsWritableRange r) where
 
 -- ---- splits
 
-bar_there : (a b : List ℕ) → list_all is_no_bar (a ++ (124 ∷ b)) ≡ true → ⊥
+pub bar_there : (a b : List ℕ) → list_all is_no_bar (a ++ (124 ∷ b)) ≡ true → ⊥
 bar_there [] b h = let same_bits : false ≡ true = (and_parts false (list_all is_no_bar b) h).0 in cc same_bits
 bar_there (x ∷ a) b h = bar_there a b (and_parts _ _ h).1
 
 pub no_bar : (text : List ℕ) → list_all is_no_bar text ≡ true → HasNoBar text
 no_bar text h = λ a b e. bar_there a (124 ∷ b) (rw e at h)
 
-cut_at : (piece rest : List ℕ) → list_all is_no_bar piece ≡ true → IsCutAt (piece ++ (124 ∷ 124 ∷ rest)) piece rest
+pub cut_at : (piece rest : List ℕ) → list_all is_no_bar piece ≡ true → IsCutAt (piece ++ (124 ∷ 124 ∷ rest)) piece rest
 cut_at piece rest h = record { text_is = refl; leftmost = go }
   where
     go : (a b : List ℕ) → piece ++ (124 ∷ 124 ∷ rest) ≡ a ++ (124 ∷ 124 ∷ b) → length piece ≤ length a

@@ -1,7 +1,7 @@
 -- The alternatives of a text, where they stand, and what a grammar makes of each: a range, or what is wrong with it.
-use Rattle.std.specs.Prelude.{◌≡◌, ◌+◌, ◌-◌, ◌<◌, ℕ, List, [], ◌∷◌, length, map, Bool, true, false, Option, Some, None, Result, Ok, Err}
+use Rattle.std.specs.Prelude.{◌≡◌, ◌+◌, ◌-◌, ◌<◌, ℕ, List, [], ◌∷◌, length, map, Bool, true, false, Option, Some, None, Result, Ok, Err, IsUtf8}
 use Rattle.std.specs.List.{AllByRecursion}
-use Rattle.std.specs.Str.{trim}
+use Rattle.std.specs.Str.{trim, trim_end}
 use Rattle.semver_base.specs.Comparators.{Comparator, comparator_range}
 use Rattle.semver_base.specs.Grammar.{IsLongest}
 use Rattle.semver_base.specs.Lexical.{IsWhitespace}
@@ -12,9 +12,13 @@ use Rattle.semver_req.specs.Comparators.{fits}
 use Rattle.semver_req.specs.Outcome.{IsBad, IsSpecifierRange}
 use Rattle.semver_req.specs.PieceReading.{IsPieceRead}
 use Rattle.semver_req.specs.Pieces.{HasNoBar, IsCutAt, IsTrimmed}
+use Rattle.semver_req.specs.Sizes.{Sized}
+use Rattle.semver_req.specs.Viable.{IsErrorPlace, IsWholeText}
 use Rattle.semver_req.specs.declared.common.values.Flavour.{Flavour}
 use Rattle.semver_req.specs.declared.common.values.Flavour.TheVariants.{Npm, Normal, Specifier}
 use Rattle.semver_req.specs.Causes.{IsCauseAt, IsFirstOutsideTag, IsRejected, rejection_of}
+use Rattle.semver_req.specs.declared.error_places.Sizes.{Sizes}
+use Rattle.semver_req.specs.declared.error_places.Sizes.TheVariants.{Any, Fitting}
 use Rattle.semver_req.specs.declared.error_places.causes.Cause.{Cause}
 use Rattle.semver_req.specs.declared.error_places.causes.Cause.TheVariants.{Unexpected, NoTag, Empty, NumberTooLarge, BoundTooLarge}
 use Rattle.semver_req.specs.declared.error_places.expected.Kind.{Kind}
@@ -153,3 +157,26 @@ TextsHaveOneListOfAlternatives = (f : Flavour) (before : ℕ) (text : List ℕ) 
 abbrev pub TextsHaveOneListOfErrors : Type 0
 TextsHaveOneListOfErrors = (f : Flavour) (before : ℕ) (text : List ℕ) (errors others : List InvalidPiece)
     → AreInvalidBehind f before text errors → AreInvalidBehind f before text others → map reported errors ≡ map reported others
+
+-- ---- the first error
+
+-- the sizes of numbers of the grammar that a text leaves at an error with this cause, if it leaves one
+abbrev pub left_by : Cause → Option Sizes
+left_by (Unexpected e) = Some Any
+left_by NoTag = None
+left_by Empty = None
+left_by NumberTooLarge = Some Fitting
+left_by BoundTooLarge = None
+
+-- what of a text the place of an error counts: npm's parser trims the text, so not the whitespace at its end
+abbrev pub counted : Flavour → List ℕ → List ℕ
+counted Npm text = trim_end text
+counted Normal text = text
+counted Specifier text = text
+
+-- if the first invalid alternative leaves the grammar, the whole text leaves it at the same place; and so it is with the grammar of
+-- numbers that fit, if the first invalid alternative has a number that is too large
+abbrev pub TextsLeaveTheirGrammarAtTheFirstError : Type 0
+TextsLeaveTheirGrammarAtTheFirstError = (f : Flavour) (before : ℕ) (text : List ℕ) (e : InvalidPiece) (errors : List InvalidPiece)
+    (sizes : Sizes) → IsUtf8 text → AreInvalidBehind f before text (e ∷ errors) → left_by e.cause ≡ Some sizes
+    → (place : ℕ) × (e.place ≡ before + place) × IsErrorPlace (Sized sizes (IsWholeText f)) (counted f text) place

@@ -1,5 +1,5 @@
 -- Where a text leaves a grammar; the textbook's viable prefixes.
-use Rattle.std.specs.Prelude.{◌≡◌, ◌⊎◌, ℕ, List, [], ◌∷◌, ◌++◌, ◌≤◌, Bool, true, take, codes, IsUtf8, Ok}
+use Rattle.std.specs.Prelude.{◌≡◌, ◌⊎◌, ℕ, List, [], ◌∷◌, ◌++◌, ◌≤◌, Bool, true, false, take, codes, IsUtf8, Ok}
 use Rattle.std.specs.Str.{IsCharBoundary, trim}
 use Rattle.semver_base.specs.Comparators.{Comparator}
 use Rattle.semver_base.specs.Grammar.{Mapped}
@@ -7,7 +7,7 @@ use Rattle.semver_base.specs.Lexical.{IsWhitespace}
 use Rattle.semver_base.specs.VersionGrammar.{IsVersionOutcome}
 use Rattle.semver_base.specs.declared.version.Version.{Version}
 use Rattle.semver_req.specs.Outcome.{IsSpecifierRange}
-use Rattle.semver_req.specs.Pieces.{IsPiece}
+use Rattle.semver_req.specs.Pieces.{ArePieces, IsPiece}
 use Rattle.semver_req.specs.declared.common.values.Flavour.{Flavour}
 use Rattle.semver_req.specs.declared.common.values.Flavour.TheVariants.{Npm, Normal, Specifier}
 use Rattle.semver_req.specs.declared.error_places.Grammar.{Grammar}
@@ -52,6 +52,28 @@ HasPiece f sizes followed text = (cs : List Comparator) × Sized sizes (IsAnyPie
 
 abbrev pub HasRange : Sizes → List ℕ → Type 0
 HasRange sizes text = (cs : List Comparator) × Sized sizes (IsPart Specifier) text cs
+
+-- ---- of whole texts
+
+-- pieces that are all alternatives of the grammar, and their comparators; true if the first piece is followed by `||`
+pub data AreInGrammar (f : Flavour) : Bool → List (List ℕ) → List Comparator → Type 0 where
+  no_pieces : {followed : Bool} → AreInGrammar f followed [] []
+  with_piece : {followed : Bool} {piece : List ℕ} {pieces : List (List ℕ)} {cs others : List Comparator}
+      → IsAnyPiece f followed piece cs → AreInGrammar f false pieces others
+      → AreInGrammar f followed (piece ∷ pieces) (cs ++ others)
+
+-- the text, split at its `||`, has alternatives of the grammar alone
+pub record IsSplitText (f : Flavour) (text : List ℕ) (cs : List Comparator) : Type 0 where
+  pub followed : Bool
+  pub pieces : List (List ℕ)
+  pub split : ArePieces text followed pieces
+  pub are : AreInGrammar f followed pieces cs
+
+-- the whole texts of each grammar: of npm's they are trimmed first
+abbrev pub IsWholeText : Flavour → List ℕ → List Comparator → Type 0
+IsWholeText Npm = λ text cs. IsSplitText Npm (trim text) cs
+IsWholeText Normal = IsSplitText Normal
+IsWholeText Specifier = IsPart Specifier
 
 -- ---- of versions
 

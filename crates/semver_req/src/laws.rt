@@ -13,7 +13,7 @@ ghost use Rattle.semver_req.specs.ResolveSteps.{OneWalkFindsTheBest};
 ghost use Rattle.semver_req.specs.RetainedSet.{RetainedSetsMeanTheirTrees};
 ghost use Rattle.semver_req.specs.Outcome.{TextsHaveOneOutcome};
 ghost use Rattle.semver_req.specs.TextRejection.{TextsAreRejectedForOneReason};
-ghost use Rattle.semver_req.specs.Alternatives.{TextsHaveOneListOfAlternatives, TextsHaveOneListOfErrors};
+ghost use Rattle.semver_req.specs.Alternatives.{TextsHaveOneListOfAlternatives, TextsHaveOneListOfErrors, TextsLeaveTheirGrammarAtTheFirstError};
 ghost use Rattle.semver_req.specs.Pieces.{NormalPiecesAreNpms};
 ghost use Rattle.semver_req.specs.AnyOrder.{TestsHaveOneLowestVersion};
 ghost use Rattle.semver_req.specs.Parsers.{ReadRequirementsAreAnswers};
@@ -65,6 +65,13 @@ pub fn texts_have_one_list_of_alternatives()
 /// rejected, and what is expected there.
 pub fn texts_have_one_list_of_errors()
     ensures { TextsHaveOneListOfErrors }
+{}
+
+/// If the first invalid alternative of a text leaves the grammar, the whole text leaves it at the same place: what stands before that
+/// place begins some text of the grammar, with all its alternatives, and no longer part of the text does. If a number in that alternative
+/// is too large, so it is with the grammar of numbers that fit. npm's parser trims a text first, so whitespace at its end isn't counted.
+pub fn texts_leave_their_grammar_at_the_first_error()
+    ensures { TextsLeaveTheirGrammarAtTheFirstError }
 {}
 
 /// A test of versions has one lowest version without a build that is read back from its text, or none.

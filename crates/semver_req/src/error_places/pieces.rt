@@ -156,7 +156,9 @@ pub fn alternatives<'a>(
     }
 }
 
-/// The invalid alternatives of a text, in their order, with what is wrong in each and where: none if the text is valid.
+/// The invalid alternatives of a text, in their order, with what is wrong in each and where: none if the text is valid. Where the first
+/// leaves the grammar, the whole text does, by
+/// [`texts_leave_their_grammar_at_the_first_error`](crate::laws::texts_leave_their_grammar_at_the_first_error).
 ///
 /// Takes time that grows as n log n. Fails only out of memory.
 pub fn invalid_pieces(
