@@ -49,7 +49,7 @@ strictly Equal Equal = refl
 strictly Equal Greater = refl
 strictly Greater p = refl
 
-then_less : (n : Ordering) → is_le (ordering_then n Less) ≡ is_le n
+pub then_less : (n : Ordering) → is_le (ordering_then n Less) ≡ is_le n
 then_less Less = refl
 then_less Equal = refl
 then_less Greater = refl
@@ -128,7 +128,7 @@ past_up p t w v le h = le_le spot_total (p, t) (Before, w) (Before, v) h (past_b
 below : (c d : Cut) → is_le (cut_cmp c d) ≡ true → (v : Version) → is_from d v ≡ true → is_from c v ≡ true
 below c d le v h = le_le spot_total (c.place, c.version.now) (d.place, d.version.now) (Before, v) le h
 
-not_less_ge : (r : Ordering) → is_lt r ≡ false → is_ge r ≡ true
+pub not_less_ge : (r : Ordering) → is_lt r ≡ false → is_ge r ≡ true
 not_less_ge Less h = cc h
 not_less_ge Equal h = refl
 not_less_ge Greater h = refl
@@ -137,12 +137,12 @@ not_less_ge Greater h = refl
 pub not_below : (c d : Cut) → is_lt (cut_cmp c d) ≡ false → (v : Version) → is_from c v ≡ true → is_from d v ≡ true
 not_below c d e = below d c (le_turned spot_total (c.place, c.version.now) (d.place, d.version.now) (not_less_ge (cut_cmp c d) e))
 
-or_first : (a b : Bool) → (b ≡ true → a ≡ true) → a ≡ (a || b)
+pub or_first : (a b : Bool) → (b ≡ true → a ≡ true) → a ≡ (a || b)
 or_first true b h = refl
 or_first false true h = h refl
 or_first false false h = refl
 
-or_second : (a b : Bool) → (a ≡ true → b ≡ true) → b ≡ (a || b)
+pub or_second : (a b : Bool) → (a ≡ true → b ≡ true) → b ≡ (a || b)
 or_second true b h = h refl
 or_second false b h = refl
 

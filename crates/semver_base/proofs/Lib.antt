@@ -6,6 +6,7 @@ pub mod LowestFirst
 pub mod LowestIdentifiers
 pub mod LowestTests
 pub mod LowestWritten
+pub mod MergedSpans
 pub mod NormalTable
 pub mod Numbers
 pub mod NumbersOrder
@@ -14,6 +15,8 @@ pub mod PreMatches
 pub mod PrecedenceLemmas
 pub mod Qualifiers
 pub mod Replaced
+pub mod ScanKeys
+pub mod ScanKinds
 pub mod ShortTexts
 pub mod SortKeyBytes
 pub mod SortKeys

@@ -28,11 +28,11 @@ abbrev bytes_cmp : List ℕ → List ℕ → Ordering
 bytes_cmp = slice_cmp nat_cmp
 
 -- whatever follows two keys, the ordering decides, and then what follows
-record AreDecided (k l : List ℕ) (r : Ordering) : Type 0 where
-  before : (x y : List ℕ) → bytes_cmp (k ++ x) (l ++ y) ≡ ordering_then r (bytes_cmp x y)
+pub record AreDecided (k l : List ℕ) (r : Ordering) : Type 0 where
+  pub before : (x y : List ℕ) → bytes_cmp (k ++ x) (l ++ y) ≡ ordering_then r (bytes_cmp x y)
 
 -- two keys, one after the other
-joined : {k l m n : List ℕ} {r s : Ordering} → AreDecided k l r → AreDecided m n s → AreDecided (k ++ m) (l ++ n) (ordering_then r s)
+pub joined : {k l m n : List ℕ} {r s : Ordering} → AreDecided k l r → AreDecided m n s → AreDecided (k ++ m) (l ++ n) (ordering_then r s)
 joined {k} {l} {m} {n} {r} {s} c d =
     record { before = λ x y. then_next r s (bytes_cmp x y) refl (rw (append_assoc k m x, append_assoc l n y, c.before (m ++ x) (n ++ y), d.before x y) refl) }
 
@@ -90,7 +90,7 @@ shorter a b h g less = elim (cases_lt a b) [
       absurd (omega (arith, less, length-decimal-le (length (decimal a)) b (decimal_nonempty a h) (omega (arith, under, numeral.1, above)) g))
 ]
 
-number : (a b : ℕ) → a < 2 ^ 64 → b < 2 ^ 64 → AreDecided (number_key a) (number_key b) (nat_cmp a b)
+pub number : (a b : ℕ) → a < 2 ^ 64 → b < 2 ^ 64 → AreDecided (number_key a) (number_key b) (nat_cmp a b)
 number a b h g = record { before = λ x y. go x y (nat_cmp (64 + length (decimal a)) (64 + length (decimal b))) (ranked (64 + length (decimal a)) (64 + length (decimal b)) _ refl) }
   where
     go : (x y : List ℕ) (r : Ordering) → MatchOrdering r (64 + length (decimal a) < 64 + length (decimal b)) (64 + length (decimal a) ≡ 64 + length (decimal b)) (64 + length (decimal b) < 64 + length (decimal a))
@@ -150,7 +150,7 @@ pre (s ∷ p) (t ∷ q) h g = record { before = λ x y. rw (eqb-suc-zero (length
 
 -- ---- versions
 
-version : (v w : Version) → IsReadable v → IsReadable w → AreDecided (sort_key v) (sort_key w) (precedence_cmp v w)
+pub version : (v w : Version) → IsReadable v → IsReadable w → AreDecided (sort_key v) (sort_key w) (precedence_cmp v w)
 version v w h g =
     joined (number v.major w.major h.numbers.major g.numbers.major)
     (joined (number v.minor w.minor h.numbers.minor g.numbers.minor)

@@ -24,6 +24,7 @@ pub mod PartialTable
 pub mod Precedence
 pub mod PrecedenceLaws
 pub mod Sameness
+pub mod Scans
 pub mod ShortLaws
 pub mod ShortTexts
 pub mod Shortest

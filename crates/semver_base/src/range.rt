@@ -11,6 +11,7 @@ ghost use Rattle.semver_base.specs.declared.range.PreRelease.TheVariants.{Restri
 mod display;
 mod intervals;
 mod lowest;
+pub mod scans;
 
 use crate::string::{CowItem, CowVec};
 use crate::version::Version;

@@ -34,7 +34,7 @@ impl Version {
 }
 
 // Appends the key of a number: a letter for how many digits it has, from `A` for one, and the digits.
-fn push_number(key: &mut String, number: u64) -> Result<(), AllocError>
+pub(crate) fn push_number(key: &mut String, number: u64) -> Result<(), AllocError>
     ensures { OnOk result (string_bytes key.new ≡ string_bytes key.old ++ number_key number) }
 {
     let mut buffer = Buffer::new();

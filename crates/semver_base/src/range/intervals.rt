@@ -69,8 +69,8 @@ impl Place {
 // A cut between versions.
 #[derive(Clone, Copy)]
 pub(crate) struct Cut<'a> {
-    place: Place,
-    version: &'a Version,
+    pub(crate) place: Place,
+    pub(crate) version: &'a Version,
 }
 
 // Which versions are asked for: all, with pre-releases admitted; or by npm's rule the releases, or the pre-releases.
@@ -84,8 +84,8 @@ pub(crate) enum Group {
 // The versions between two cuts.
 #[derive(Clone, Copy)]
 pub(crate) struct Interval<'a> {
-    low: Cut<'a>,
-    high: Cut<'a>,
+    pub(crate) low: Cut<'a>,
+    pub(crate) high: Cut<'a>,
 }
 
 // The version of the same numbers with this pre-release, without a build.
@@ -453,16 +453,12 @@ impl<'a> Interval<'a> {
     }
 }
 
-// Appends the interval, if there is one.
-fn push_some<'a>(
-    intervals: &mut Vec<Interval<'a>>,
-    interval: Option<Interval<'a>>,
-) -> Result<(), AllocError>
-    ensures { OnOk result
-        (intervals.new.items ≡ intervals.old.items ++ option_to_list interval.entry) }
+// Appends the item, if there is one.
+pub(crate) fn push_some<T: Drop>(items: &mut Vec<T>, item: Option<T>) -> Result<(), AllocError>
+    ensures { OnOk result (items.new.items ≡ items.old.items ++ option_to_list item) }
 {
-    if let Some(interval) = interval {
-        intervals.push(interval)?;
+    if let Some(item) = item {
+        items.push(item)?;
     }
     Ok(())
 }
