@@ -13,6 +13,7 @@ pub mod package;
 
 pub use semver_base::failure::{ParseFailure, Rejection};
 pub use semver_base::partial::{Partial, XRange};
+pub use semver_base::range::scans::Scan;
 pub use semver_base::range::{
     PreRelease, RangeBound, VersionBound, VersionBoundKind, VersionRange, VersionRangeSet,
 };

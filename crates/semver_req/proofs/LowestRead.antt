@@ -24,10 +24,9 @@ pub common_back : {X E : Type 0} (P : X → Type 0) (one other : RangeSetOrTag) 
 common_back P one other set others (Ok x) is are h = λ own rest. h (writable one set is own) (writable other others are rest)
 common_back P one other set others (Err e) is are h = tt
 
-pub own_back : {E : Type 0} (one : RangeSetOrTag) (set : VersionRangeSet) (r : Result (Option Version) E) → one ≡ inner.RangeSet set
-    → IfOk r (λ lowest. AreWritableRanges set.0 → IfSome lowest ReadsBack) → IfOk r (λ lowest. IsReadOrTag one → IfSome lowest ReadsBack)
-own_back one set (Ok lowest) is h = λ own. h (writable one set is own)
-own_back one set (Err e) is h = tt
+pub own_back : {T E : Type 0} (P : T → Type 0) (one : RangeSetOrTag) (set : VersionRangeSet) (r : Result T E) → one ≡ inner.RangeSet set → IfOk r (λ x. AreWritableRanges set.0 → P x) → IfOk r (λ x. IsReadOrTag one → P x)
+own_back P one set (Ok x) is h = λ own. h (writable one set is own)
+own_back P one set (Err e) is h = tt
 
 -- ---- all requirements
 

@@ -12,6 +12,7 @@ ghost use Rattle.semver_req.specs.Requirement.{MatchNoVersion, OverlapAsTags, Pi
 ghost use Rattle.semver_req.specs.declared.common.values.Flavour.TheVariants.{Normal};
 
 mod lowest;
+mod scans;
 
 use crate::common::short::short_range;
 use crate::common::values::Flavour;

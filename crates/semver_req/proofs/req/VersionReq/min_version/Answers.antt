@@ -1,4 +1,5 @@
-use Rattle.std.proofs.Common.{◌≡◌}
+use Rattle.std.proofs.Common.{◌≡◌, IfSome}
+use Rattle.semver_base.specs.VersionText.{ReadsBack}
 use Rattle.semver_req.specs.declared.range_set_or_tag.RangeSetOrTag.TheVariants as inner
 use Rattle.semver_req.proofs.AnyOrder.{own_in_any_order}
 use Rattle.semver_req.proofs.LowestRead.{own_back}
@@ -8,7 +9,7 @@ pub returns-in-RangeSet-clause-reads_back : goal.returns-in-RangeSet-clause-read
 returns-in-RangeSet-clause-reads_back c =
     let arm = c.in-RangeSet in
     let is : c.args.self.now.inner ≡ inner.RangeSet arm.set = cc in
-    own_back c.args.self.now.inner arm.set c.min_version.result is c.min_version.ensures.reads_back
+    own_back (λ lowest. IfSome lowest ReadsBack) c.args.self.now.inner arm.set c.min_version.result is c.min_version.ensures.reads_back
 
 pub returns-in-RangeSet-clause-any_order : goal.returns-in-RangeSet-clause-any_order
 returns-in-RangeSet-clause-any_order c =
