@@ -24,6 +24,7 @@ pub fn ask(call: &str, arguments: &[Item], answer: &mut Answer) -> Reported {
         | "version-outside"
         | "is-subset"
         | "is-equivalent" => requirements::lowest(call, arguments, answer),
+        "scans" => requirements::scans(arguments, answer),
         "error-place" => requirements::place_of_error(arguments, answer),
         "invalid-pieces" => requirements::pieces_of_error(arguments, answer),
         "partial" => requirements::partial(arguments, answer),

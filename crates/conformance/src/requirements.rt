@@ -125,6 +125,21 @@ pub fn lowest(call: &str, arguments: &[Item], answer: &mut Answer) -> Reported {
     }
 }
 
+/// `scans`: of each scan of what a requirement matches, `release` or `pre`, its low key and its high one; or `tag`.
+pub fn scans(arguments: &[Item], answer: &mut Answer) -> Reported {
+    let (grammar, with, text) = triple(arguments)?;
+    let with = pre_release(with).ok_or(Fault::OtherArguments)?;
+    let own = requirement(grammar, text, answer)?;
+    if own.tag().is_some() {
+        return answer.text("tag");
+    }
+    for scan in &own.scans(answer.alloc, with)? {
+        let kind = if scan.is_pre { "pre" } else { "release" };
+        answer.texts(&[kind, scan.low.as_str(), scan.high.as_str()])?;
+    }
+    Ok(())
+}
+
 /// `error-place`: the index at which a text leaves the grammar of versions or of requirements.
 pub fn place_of_error(arguments: &[Item], answer: &mut Answer) -> Reported {
     let (grammar, text) = pair(arguments)?;
