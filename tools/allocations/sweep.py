@@ -161,9 +161,10 @@ def ranges_commands():
         yield from (([name, *json_form, loose, "^1 || foo"], b"") for name in ("common", "within", "overlap"))
         yield from ((["compare", *json_form, "1.2.3-rc", "1.2.3"], b""), (["overlap", *json_form, "*", ">=1.0.0-a <1.0.0", "1"], b""))
         yield from ((["sort", *json_form, "--reverse", "--skip-invalid"], VERSIONS), (["min", *json_form, loose], b""))
-        yield ["key", *json_form, "--skip-invalid"], VERSIONS
+        yield from ((["key", *json_form, "--skip-invalid"], VERSIONS), (["scans", *json_form, loose], b""))
         yield from ((["check", *json_form, "--canonical"], MANIFEST), (["explain", *json_form, "1 2 <"], b""))
         yield from ((["package", *json_form, TEXTS[2]], b""), (["reference", *json_form, "jsr:@a/b@^1/c.ts"], b""))
+    yield ["scans", "--where", "key,pre", "^1.2.3-beta || 3"], b""
     yield from ((["filter", "-q", "*"], b'["1.0.0", "2.0.0-a"]'), (["best", "--tags", "*", "-r", "1"], b"refs/tags/v1.0.0\n"))
     yield from ((["check", "--github"], MANIFEST), (["--help"], b""), (["frobnicate"], b""), (["check", "none.json"], b""))
     yield from ((["check"], b"{"), (["check"], b"[]"), (["filter", "*"], b"{}"))

@@ -15,6 +15,7 @@ mod errors;
 mod explaining;
 mod listed;
 mod packaged;
+mod scanned;
 
 use clap::ArgMatches;
 use clap::error::ErrorKind as Mistake;
@@ -47,6 +48,7 @@ fn answer<R: Input + Files + AllocGlobal, O: Write, E: Write>(
         "within" => comparing::within(console, matches),
         "overlap" => comparing::overlap(console, matches),
         "compare" => comparing::compare(console, matches),
+        "scans" => scanned::report(console, matches),
         "package" => packaged::report_package(console, matches),
         "reference" => packaged::report_reference(console, matches),
         _ => Ok(Status::Usage),

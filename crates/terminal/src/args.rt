@@ -77,6 +77,8 @@ enum Form {
     Grammar,
     /// An option whose value is a range, any number of times.
     MoreRanges,
+    /// An option whose value names two columns, which doesn't go with `--json`.
+    Columns,
     /// A text.
     Text,
     /// At least so many texts.
@@ -181,6 +183,12 @@ const MORE_RANGES: Argument = Argument {
     help: "Another range, which a version has to match too",
 };
 
+const WHERE: Argument = Argument {
+    name: "where",
+    form: Form::Columns,
+    help: "Print a condition of SQL, by the columns of the key and of whether it is a pre-release",
+};
+
 const NEW: Argument = Argument {
     name: "NEW",
     form: Form::Text,
@@ -265,7 +273,7 @@ const MATCHING: &[Argument] = &[
 // A command that has another name, and that name.
 const ALIAS: (&str, &str) = ("filter", "matches");
 
-const COMMANDS: [Entry; 15] = [
+const COMMANDS: [Entry; 16] = [
     Entry {
         name: "check",
         about: "Check the ranges of package.json, deno.json and import maps",
@@ -395,6 +403,15 @@ Examples:
   ranges key --json < versions",
     },
     Entry {
+        name: "scans",
+        about: "Print what a range matches, as scans of an index on sort keys",
+        arguments: &[JSON, GRAMMAR, PRE, WHERE, RANGE],
+        examples: "\
+Examples:
+  ranges scans '^1.2 || 3'
+  ranges scans --where key,pre '^1.2'",
+    },
+    Entry {
         name: "package",
         about: "Print the parts of a package with a range",
         arguments: &[JSON, GRAMMAR, PACKAGE],
@@ -435,6 +452,9 @@ fn command<'a>(alloc: Global, entry: &Entry) -> Result<Command<'a>, AllocError> 
             Form::MoreRanges => option(alloc, argument, Some('r'))
                 .value_name("RANGE")
                 .action(ArgAction::Append),
+            Form::Columns => option(alloc, argument, None)
+                .value_name("KEY,PRE")
+                .conflicts_with("json")?,
             Form::Text => Arg::new(alloc, argument.name).required(true),
             Form::Texts(count) => Arg::new(alloc, argument.name)
                 .required(count > 0)
