@@ -60,7 +60,7 @@ def rows(text, heading):
 
 def option(term, description):
     choices = re.search(r" ?\[possible values: ([^]]*)\]", description)
-    value = re.search(r"<(\w+)>", term)
+    value = re.search(r"<([\w,]+)>", term)
     short = re.match(r"-(\w),", term)
     return Option(
         name=re.search(r"--([a-z-]+)", term).group(1),

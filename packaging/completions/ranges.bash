@@ -5,7 +5,7 @@ _ranges() {
         --grammar) COMPREPLY=($(compgen -W "npm normal strict" -- "$word")); return ;;
     esac
     if [ "$COMP_CWORD" = 1 ]; then
-        COMPREPLY=($(compgen -W "check explain normal min common within overlap filter matches best outdated compare sort key package reference help --help --version" -- "$word"))
+        COMPREPLY=($(compgen -W "check explain normal min common within overlap filter matches best outdated compare sort key scans package reference help --help --version" -- "$word"))
         return
     fi
     case ${COMP_WORDS[1]} in
@@ -22,6 +22,7 @@ _ranges() {
         compare) options="-j --json -h --help -V --version" ;;
         sort) options="-j --json -r --reverse -0 --null --tags --skip-invalid -h --help -V --version" ;;
         key) options="-j --json -0 --null --tags --skip-invalid -h --help -V --version" ;;
+        scans) options="-j --json -g --grammar -p --pre --where -h --help -V --version" ;;
         package) options="-j --json -g --grammar -h --help -V --version" ;;
         reference) options="-j --json -h --help -V --version" ;;
     esac

@@ -1,12 +1,12 @@
 #!/usr/bin/env python3
-"""Compares lowest versions, containment and equivalence of random ranges with sets of versions, written here from node-semver's rules
-alone. Run at the top of the project, after rt ci (or after rt run in crates/conformance).
+"""Compares lowest versions, containment, equivalence and scans of random ranges with sets of versions, written here from node-semver's
+rules alone. Run at the top of the project, after rt ci (or after rt run in crates/conformance).
 
-    tools/intervals/check.py [COUNT] [SEED]    COUNT: so many questions, 20,000 if it isn't given
+    tools/intervals/check.py [COUNT] [SEED]    COUNT: so many questions, and so many matches by scans, 20,000 if it isn't given
 
 A set of versions is a bit mask over some thousands of versions, in the order of precedence. They are so dense that the lowest version of
-each answer is among them: with each bound stand the versions next to it. The last line counts; the status is 1 where something
-differs."""
+each answer is among them: with each bound stand the versions next to it. Scans are asked with the sort keys of all these versions. The
+last lines count; the status is 1 where something differs."""
 import bisect, itertools, json, pathlib, random, re, subprocess, sys
 
 TOP = pathlib.Path(__file__).resolve().parents[2]
@@ -144,6 +144,66 @@ def rows(source, count):
             made += 1
 
 
+# ---- scans
+
+
+def number_key(number):
+    return chr(64 + len(str(number))) + str(number)
+
+
+def sort_key(version):
+    numbers, pre = version
+    front = "".join(map(number_key, numbers))
+    if not pre:
+        return front + "~"
+    keys = [f"#{number_key(key[1])}{it}!" if key[0] == 0 else f"${it}!" for it in pre for key in [identifier_key(it)]]
+    return f"{front}-{''.join(keys)}!"
+
+
+SORT_KEYS = [sort_key(version).encode() for version in VERSIONS]
+
+
+def found_by(scans):
+    """The mask of the versions that some scan of their kind finds."""
+    found = 0
+    for kind, low, high in scans:
+        start, end = bisect.bisect_left(SORT_KEYS, low.encode()), bisect.bisect_left(SORT_KEYS, high.encode())
+        between = (1 << max(start, end)) - (1 << start)
+        found |= between & (RELEASES if kind == "release" else ALL & ~RELEASES)
+    return found
+
+
+def are_sorted(scans):
+    """No scan is empty, and those of a kind are apart."""
+    return all(low < high for _, low, high in scans) and all(
+        one[0] < other[0] if one[0] != other[0] else one[2] < other[1]
+        for one, other in itertools.pairwise([("01"[kind == "pre"], low.encode(), high.encode()) for kind, low, high in scans])
+    )
+
+
+def wrong_scans(source, count):
+    """Asks for scans, and yields the ranges of those that don't find what the ranges match."""
+    asked = []
+    for _ in range(-(-count // (2 * len(VERSIONS)))):
+        ranges = random_sets(source)[0]
+        for admitted in (False, True):
+            mask = 0
+            for each in ranges:
+                mask |= each.mask(admitted)
+            asked.append((" || ".join(each.text for each in ranges), admitted, mask))
+    # The program prints each answer that isn't the one in its row: none is.
+    table = [json.dumps([["scans", "npm", "admitted" if admitted else "restricted", given], ["?"]]) for given, admitted, _ in asked]
+    printed = subprocess.run([CONFORMANCE], input="\n".join(table).encode(), capture_output=True).stdout.decode()
+    answers = [json.loads(it) for it in re.findall(r"^    answered (\[.*\])$", printed, re.M)]
+    if len(answers) != len(asked):
+        yield f"{len(answers)} answers of {len(asked)}"
+        return
+    for (given, admitted, mask), answer in zip(asked, answers):
+        scans = list(zip(*[iter(answer)] * 3))
+        if len(answer) % 3 or found_by(scans) != mask or not are_sorted(scans):
+            yield f"{'admitted' if admitted else 'restricted'} {given}: {answer}"
+
+
 def main():
     count = int(sys.argv[1]) if len(sys.argv) > 1 else 20_000
     source = random.Random(int(sys.argv[2]) if len(sys.argv) > 2 else 1)
@@ -157,7 +217,14 @@ def main():
         print(f"conformance ends with the status {ran.returncode}, and asks {asked} of {count}: {ran.stderr.decode()}")
         return 1
     print(f"intervals: {asked} questions, {wrong} differ")
-    return 1 if wrong else 0
+    if SORT_KEYS != sorted(SORT_KEYS):
+        print("intervals: the sort keys aren't in the order of precedence")
+        return 1
+    scans = list(wrong_scans(source, count))
+    print(*scans[:10], sep="\n", end="\n" if scans else "")
+    matches = -(-count // (2 * len(VERSIONS))) * 2 * len(VERSIONS)
+    print(f"intervals: {matches} matches by scans, {len(scans)} lists of scans differ")
+    return 1 if wrong or scans else 0
 
 
 if __name__ == "__main__":
