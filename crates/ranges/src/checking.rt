@@ -225,6 +225,29 @@ fn is_kept(piece: &Piece) -> bool {
     }
 }
 
+// What is said of alternatives that are no ranges.
+fn of_left_out(is_refused: bool) -> &'static str {
+    if is_refused {
+        "npm refuses it: no alternative is a range"
+    } else {
+        "npm leaves out an alternative that isn't a range"
+    }
+}
+
+// What is said of a range that npm, and so node-semver, reads in another way.
+fn of_reading(range: &str, is_refused: bool) -> Option<&'static str> {
+    if range.contains(',') && is_refused {
+        return Some("npm refuses `,`: write a space");
+    }
+    if range.contains(',') || range.contains("&&") {
+        return Some("node-semver rejects `,` and `&&`: write a space");
+    }
+    if range.trim_end().ends_with("||") {
+        return Some("node-semver reads what follows the last `||` as every version");
+    }
+    None
+}
+
 // Reports what npm refuses or passes over, and what is odd about the alternatives.
 fn warn<O: Write, E: Write>(
     console: &mut Console<O, E>,
@@ -241,28 +264,13 @@ fn warn<O: Write, E: Write>(
     };
     if has_left_out(pieces) {
         let errors = errors_at_end(console.alloc, Flavour::Npm, entry.text.as_str(), range)?;
-        let message = if is_refused {
-            "npm refuses it: no alternative is a range"
-        } else {
-            "npm leaves out an alternative that isn't a range"
-        };
         let finding = Finding {
             errors: Some(&errors),
-            ..Finding::new(level, message)
+            ..Finding::new(level, of_left_out(is_refused))
         };
         report.add(console, entry, finding)?;
     }
-    // npm, and so node-semver, reads these in another way.
-    let message = if range.contains(',') && is_refused {
-        Some("npm refuses `,`: write a space")
-    } else if range.contains(',') || range.contains("&&") {
-        Some("node-semver rejects `,` and `&&`: write a space")
-    } else if range.trim_end().ends_with("||") {
-        Some("node-semver reads what follows the last `||` as every version")
-    } else {
-        None
-    };
-    if let Some(message) = message {
+    if let Some(message) = of_reading(range, is_refused) {
         report.add(console, entry, Finding::new(level, message))?;
     }
     let warnings = warnings(console.alloc, pieces)?;
