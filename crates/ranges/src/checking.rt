@@ -225,29 +225,6 @@ fn is_kept(piece: &Piece) -> bool {
     }
 }
 
-// What is said of alternatives that are no ranges.
-fn of_left_out(is_refused: bool) -> &'static str {
-    if is_refused {
-        "npm refuses it: no alternative is a range"
-    } else {
-        "npm leaves out an alternative that isn't a range"
-    }
-}
-
-// What is said of a range that npm, and so node-semver, reads in another way.
-fn of_reading(range: &str, is_refused: bool) -> Option<&'static str> {
-    if range.contains(',') && is_refused {
-        return Some("npm refuses `,`: write a space");
-    }
-    if range.contains(',') || range.contains("&&") {
-        return Some("node-semver rejects `,` and `&&`: write a space");
-    }
-    if range.trim_end().ends_with("||") {
-        return Some("node-semver reads what follows the last `||` as every version");
-    }
-    None
-}
-
 // Reports what npm refuses or passes over, and what is odd about the alternatives.
 fn warn<O: Write, E: Write>(
     console: &mut Console<O, E>,
@@ -256,22 +233,38 @@ fn warn<O: Write, E: Write>(
     range: &str,
     pieces: &[Piece],
 ) -> Result<(), Stop> {
-    let is_refused = entry.kind == Kind::Dependency && !pieces.iter().any(is_kept);
-    let level = if is_refused {
-        Level::Error
-    } else {
-        Level::Warning
-    };
-    if has_left_out(pieces) {
+    let has_nothing = entry.kind == Kind::Dependency && !pieces.iter().any(is_kept);
+    if has_left_out(pieces) && has_nothing {
         let errors = errors_at_end(console.alloc, Flavour::Npm, entry.text.as_str(), range)?;
+        let message = "npm refuses it: no alternative is a range";
         let finding = Finding {
             errors: Some(&errors),
-            ..Finding::new(level, of_left_out(is_refused))
+            ..Finding::new(Level::Error, message)
+        };
+        report.add(console, entry, finding)?;
+    } else if has_left_out(pieces) {
+        let errors = errors_at_end(console.alloc, Flavour::Npm, entry.text.as_str(), range)?;
+        let message = "npm leaves out an alternative that isn't a range";
+        let finding = Finding {
+            errors: Some(&errors),
+            ..Finding::new(Level::Warning, message)
         };
         report.add(console, entry, finding)?;
     }
-    if let Some(message) = of_reading(range, is_refused) {
-        report.add(console, entry, Finding::new(level, message))?;
+    if range.contains(',') && has_nothing {
+        let message = "npm refuses `,`: write a space";
+        report.add(console, entry, Finding::new(Level::Error, message))?;
+    }
+    // node-semver, and so npm, reads these in another way.
+    let warning = if range.trim_end().ends_with("||") {
+        Some("node-semver reads what follows the last `||` as every version")
+    } else if !has_nothing && (range.contains(',') || range.contains("&&")) {
+        Some("node-semver rejects `,` and `&&`: write a space")
+    } else {
+        None
+    };
+    if let Some(warning) = warning {
+        report.add(console, entry, Finding::new(Level::Warning, warning))?;
     }
     let warnings = warnings(console.alloc, pieces)?;
     for warning in warnings.iter() {
