@@ -7,7 +7,7 @@ import importlib.util, pathlib, re, subprocess, sys, tempfile
 TOP = pathlib.Path(__file__).resolve().parents[2]
 CRATES = ("semver_base", "semver_req", "deno_semver")
 # How many contracts and examples a page has.
-COUNTS = {"README.md": (0, 1)} | {f"crates/{crate}/CALLING.md": (count, 1) for crate, count in zip(CRATES, (45, 28, 29))}
+COUNTS = {"README.md": (0, 1)} | {f"crates/{crate}/CALLING.md": (count, 1) for crate, count in zip(CRATES, (46, 29, 29))}
 
 
 def plain(text):
