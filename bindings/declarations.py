@@ -51,6 +51,7 @@ def handle(c, rust, passed=None):
 KINDS = {
     "u32": Kind("uint32_t {0}", "c_uint32", "{0}: u32", "uint32_t {0}", "{0}"),
     "u64": Kind("uint64_t {0}", "c_uint64", "{0}: u64"),
+    "usize": Kind("size_t {0}", "c_size_t", "{0}: usize"),
     "&[u8]": Kind("const char *{0}, size_t {0}_len", "*TEXT", "{0}: &str", "uint32_t {0}_len", "TEXT({1}, {0}_len)"),
     "&mut [u8]": Kind("char *{0}, size_t {0}_len", "*TEXT", "{0}: &mut [u8]", passed="OUT"),
     "&mut [i8]": Kind("int8_t *{0}, size_t {0}_len", "*ANSWERS", "{0}: &mut [i8]", passed="ANSWERS"),
@@ -62,6 +63,7 @@ HANDLES = {
     "&mut RequirementHandle": handle("semver_req", "Requirement", "RANGE({0})"),
     "&mut VersionHandle": handle("semver_ver", "VersionHandle"),
     "&mut VersionListHandle": handle("semver_list", "Versions", "LIST({0})"),
+    "&mut ScansHandle": handle("semver_scans", "Scans"),
 }
 # Results: C's, and that of ctypes.
 RESULTS = {"i32": ("int32_t", "c_int32"), "u32": ("uint32_t", "c_uint32"), "": ("void", "None")}
@@ -121,11 +123,11 @@ class Call:
         return f"EXPORT(int32_t, {self.exported()})({taken}) {{\n    {body};\n}}"
 
 
-def kind_of(name, written):
-    """The kind of a parameter of this type, of the call of this name. Only calls that end in _read and _free write a handle."""
+def kind_of(name, written, is_last):
+    """The kind of a parameter of this type, of the call of this name. Calls that end in _read and _free write their last handle."""
     if written in HANDLES:
         asked, changed = HANDLES[written]
-        return changed if name.endswith(("_read", "_free")) else asked
+        return changed if is_last and name.endswith(("_read", "_free")) else asked
     if written in KINDS:
         return KINDS[written]
     sys.exit(f"declarations.py: {name} has a parameter of the type {written}, of which no kind is known")
@@ -142,7 +144,8 @@ def calls():
         if result not in RESULTS:
             sys.exit(f"declarations.py: {name} returns {result}, of which no kind is known")
         pairs = [it.strip().split(": ") for it in written.split(",") if it.strip()]
-        parameters = tuple((it, kind_of(name, kind)) for it, kind in pairs if kind != "Global")
+        last = max((at for at, (_, kind) in enumerate(pairs) if kind in HANDLES), default=None)
+        parameters = tuple((it, kind_of(name, kind, at == last)) for at, (it, kind) in enumerate(pairs) if kind != "Global")
         made.append(Call(name, parameters, result))
     return made
 
@@ -177,7 +180,7 @@ TABLE: Dict[str, Tuple[Any, ...]] = {{
 
 RUST_HEAD = f"""//! The C calls as safe functions. {MADE}.
 
-use crate::raw::{{calls, Requirement, VersionHandle, Versions}};
+use crate::raw::{{calls, Requirement, Scans, VersionHandle, Versions}};
 
 calls! {{
 """

@@ -49,7 +49,7 @@ has_checker() {
 # Each call that asks a handle is in asks.h.
 asks_each() {
     sed -n 's/^int32_t semver_\([a-z_]*\)(const semver_.*/\1/p' "$here/c/semver.h" | while read -r call; do
-        grep -q "^    ask($call," "$here/c/asks.h" || { echo "bindings/c/asks.h has no $call" >&2; exit 1; }
+        grep -q "ask[(_]$call[,(]" "$here/c/asks.h" || { echo "bindings/c/asks.h has no $call" >&2; exit 1; }
     done
 }
 

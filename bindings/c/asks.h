@@ -4,21 +4,22 @@
 
 #define TEXT(s) (s), strlen(s)
 
-enum kind { NONE, REQ, VER, LIST };
+enum kind { NONE, REQ, VER, LIST, SCANS };
 enum { LINES = 4 };
-enum writes { CODE, MESSAGE, ITEMS, PLACE };
+enum writes { CODE, MESSAGE, ITEMS, PLACE, KEYS };
 
 /* What a call returns and writes. */
 typedef struct {
-    char out[64];
+    char out[64], high[64];
     int8_t answers[LINES];
-    size_t places[LINES], room, needed, place; /* the room in `out` */
+    size_t places[LINES], room, needed, place, high_needed; /* the room in `out`, and in `high` */
     int32_t code;
 } answer;
 
 #define OUT it->out, it->room, &it->needed
 #define ANSWERS it->answers, LINES, &it->needed
 #define PLACES it->places, LINES, &it->needed
+#define HIGH it->high, it->room, &it->high_needed
 
 /* Of each call: its name without semver_, the kinds of its handles, what it writes besides its code, and its arguments. */
 #define EACH(ask)                                                            \
@@ -38,7 +39,8 @@ typedef struct {
     ask(list_filter, LIST, REQ, ITEMS, one, other, pre_releases, ANSWERS)    \
     ask(list_best, LIST, REQ, PLACE, one, other, pre_releases, &it->place)   \
     ask(list_lowest, LIST, REQ, PLACE, one, other, pre_releases, &it->place) \
-    ask(list_sort, LIST, NONE, ITEMS, one, PLACES)
+    ask(list_sort, LIST, NONE, ITEMS, one, PLACES)                           \
+    ask(scan, SCANS, NONE, KEYS, one, 0, OUT, HIGH)
 
 #define FUNCTION(name, first, second, writes, ...)                                                     \
     static int32_t ask_##name(const void *one, const void *other, uint32_t pre_releases, answer *it) { \
@@ -47,13 +49,22 @@ typedef struct {
     }
 EACH(FUNCTION)
 
+/* The one call that asks a handle and reads into another. */
+static int32_t ask_scans_read(const void *one, const void *other, uint32_t pre_releases, answer *it) {
+    semver_scans scans = {0};
+    (void)other;
+    int32_t code = semver_scans_read(one, pre_releases, &scans, &it->place);
+    semver_scans_free(&scans);
+    return code;
+}
+
 #define ROW(name, first, second, writes, ...) {"semver_" #name, first, second, writes, ask_##name},
 static const struct call {
     const char *name;
     enum kind one, other;
     enum writes writes;
     int32_t (*ask)(const void *one, const void *other, uint32_t pre_releases, answer *it);
-} CALLS[] = {EACH(ROW)};
+} CALLS[] = {EACH(ROW){"semver_scans_read", REQ, NONE, PLACE, ask_scans_read}};
 enum { COUNT = sizeof CALLS / sizeof *CALLS };
 
 /* An answer that no call wrote. */

@@ -32,9 +32,19 @@ static int32_t read_list(void *handle, const char *text) {
     return semver_list_read(TEXT(text), handle, &needed);
 }
 
+/* Reads the scans of a range. */
+static int32_t read_scans(void *handle, const char *text) {
+    semver_req range = {0};
+    int32_t code = read_req(&range, text);
+    if (code == SEMVER_YES) code = semver_scans_read(&range, SEMVER_RESTRICTED, handle, &needed);
+    semver_req_free(&range);
+    return code;
+}
+
 static void free_req(void *handle) { semver_req_free(handle); }
 static void free_version(void *handle) { semver_version_free(handle); }
 static void free_list(void *handle) { semver_list_free(handle); }
+static void free_scans(void *handle) { semver_scans_free(handle); }
 
 /* The calls that read into a handle: a text, one that is invalid, and how the value is freed. */
 static const struct reader {
@@ -47,6 +57,7 @@ static const struct reader {
     {"semver_package_read", "@scope/name@^1.2", "scope/name@1", REQ, read_package, free_req},
     {"semver_version_read", "1.3.0-alpha.1+build.7", "1.3", VER, read_version, free_version},
     {"semver_list_read", "1.2.0\nfoo\n1.3.0-rc.1\n", "1.2.0\n\xff", LIST, read_list, free_list},
+    {"semver_scans_read", ">=1.2.3-rc.1 <2 || 3.x", "latest", SCANS, read_scans, free_scans},
 };
 enum { READS = sizeof READERS / sizeof *READERS };
 
@@ -54,10 +65,12 @@ static const semver_req empty;
 static semver_req reqs[2];
 static semver_ver versions[2];
 static semver_list list;
+static semver_scans scans;
 
 /* A handle that holds a value of this kind, the first or the second one; the empty one of NONE. */
 static const void *held(enum kind kind, int n) {
-    return kind == REQ ? (const void *)&reqs[n] : kind == VER ? (const void *)&versions[n] : kind == LIST ? (const void *)&list : &empty;
+    const void *const of[] = {[NONE] = &empty, [REQ] = &reqs[n], [VER] = &versions[n], [LIST] = &list, [SCANS] = &scans};
+    return of[kind];
 }
 
 /* Whether the answer of a call to these handles is that one holds no value of its kind, with so much room for the message. */
@@ -67,7 +80,8 @@ static int rejects(const struct call *c, const void *one, const void *other, siz
     clear(&wanted, room);
     it.code = c->ask(one, other, SEMVER_RESTRICTED, &it);
     wanted.code = SEMVER_NO_VALUE;
-    if (c->writes == ITEMS) wanted.needed = 0;
+    if (c->writes == ITEMS || c->writes == KEYS) wanted.needed = 0;
+    if (c->writes == KEYS) wanted.high_needed = 0;
     if (c->writes == MESSAGE) wanted.needed = strlen(NO_VALUE);
     if (c->writes == MESSAGE && wanted.needed <= room) memcpy(wanted.out, NO_VALUE, wanted.needed);
     return memcmp(&it, &wanted, sizeof it) == 0;
@@ -78,8 +92,8 @@ static void wrong_handles(void) {
     for (const struct call *c = CALLS; c < CALLS + COUNT; c++) {
         int holds = 1;
         answer it;
-        for (enum kind one = NONE; one <= LIST; one++)
-            for (enum kind other = NONE; other <= LIST; other++) {
+        for (enum kind one = NONE; one <= SCANS; one++)
+            for (enum kind other = NONE; other <= SCANS; other++) {
                 if (one == c->one && (other == c->other || c->other == NONE)) continue;
                 holds &= rejects(c, held(one, 0), held(other, 1), sizeof it.out);
                 holds &= rejects(c, held(one, 0), held(other, 1), strlen(NO_VALUE) - 1);
@@ -90,6 +104,24 @@ static void wrong_handles(void) {
     int32_t invalid = semver_req_fits(&empty, TEXT("1.3"), SEMVER_RESTRICTED);
     int32_t not_utf8 = semver_req_fits(&empty, TEXT("\xff"), SEMVER_RESTRICTED);
     is("semver_req_fits", "checks the handle before the text", invalid == SEMVER_NO_VALUE && not_utf8 == SEMVER_NO_VALUE);
+}
+
+/* A tag has no scans, and a range none behind the last. */
+static void no_scans(void) {
+    semver_scans other = {0};
+    semver_req tag = {0};
+    answer it, wanted;
+    size_t count = 9;
+    read_req(&tag, "latest");
+    int32_t code = semver_scans_read(&tag, SEMVER_RESTRICTED, &other, &count);
+    is("semver_scans_read", "makes none of a tag", code == SEMVER_TAG && !other.at && count == 9);
+    clear(&it, sizeof it.out);
+    clear(&wanted, sizeof it.out);
+    it.code = semver_scan(&scans, 1, it.out, it.room, &it.needed, it.high, it.room, &it.high_needed);
+    wanted.code = SEMVER_NO_VALUE;
+    wanted.needed = wanted.high_needed = 0;
+    is("semver_scan", "finds none behind the last", memcmp(&it, &wanted, sizeof it) == 0);
+    semver_req_free(&tag);
 }
 
 static void same_handles(void) {
@@ -127,15 +159,16 @@ static void look(enum kind kind, const semver_req *handle, state *now) {
     clear(it, sizeof it->out);
     now->at = handle->at;
     now->alive = heap_alive();
-    it->code = kind == REQ   ? semver_req_text((const void *)handle, OUT)
-               : kind == VER ? semver_version_text((const void *)handle, OUT)
-                             : semver_list_sort((const void *)handle, PLACES);
+    it->code = kind == REQ     ? semver_req_text((const void *)handle, OUT)
+               : kind == VER   ? semver_version_text((const void *)handle, OUT)
+               : kind == SCANS ? semver_scan((const void *)handle, 0, OUT, HIGH)
+                               : semver_list_sort((const void *)handle, PLACES);
 }
 
 static int is_as_it_was(enum kind kind, const semver_req *handle, const state *before) {
     state now;
     look(kind, handle, &now);
-    return now.of.code == SEMVER_YES && memcmp(&now, before, sizeof now) == 0;
+    return now.of.code >= 0 && memcmp(&now, before, sizeof now) == 0;
 }
 
 /* Whether a call that reads leaves a full handle as it was: with an invalid text, and whenever memory runs out. */
@@ -167,7 +200,7 @@ static int replaces(const struct reader *r, const struct reader *other) {
     int holds = r->read(&handle, r->text) == SEMVER_YES;
     look(r->kind, &handle, &now);
     now.at = alone.at;
-    holds &= now.of.code == SEMVER_YES && memcmp(&now, &alone, sizeof now) == 0;
+    holds &= now.of.code >= 0 && memcmp(&now, &alone, sizeof now) == 0;
     r->free(&handle);
     return holds && !handle.at;
 }
@@ -187,13 +220,16 @@ int main(void) {
     read_version(&versions[0], "1.3.0-rc.1");
     read_version(&versions[1], "1.3.0");
     read_list(&list, "1.2.0\n1.3.0\nfoo");
+    read_scans(&scans, "^1.2");
     wrong_handles();
+    no_scans();
     same_handles();
     for (int n = 0; n < 2; n++) {
         semver_req_free(&reqs[n]);
         semver_version_free(&versions[n]);
     }
     semver_list_free(&list);
+    semver_scans_free(&scans);
     frees();
     full_handles();
     is("no call", "loses a block", heap_alive() == 0);

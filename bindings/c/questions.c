@@ -287,6 +287,29 @@ static void version_error(const text *t) {
     check_match(code, place);
 }
 
+/* Writes a scan behind others in `out`, as `item` does. With too little room its keys aren't written. */
+static size_t scan(const semver_scans *scans, size_t index, size_t len) {
+    char low[256], high[256], few[] = {9, 9};
+    size_t low_len, high_len, lens[2];
+    int32_t code = semver_scan(scans, index, low, sizeof low, &low_len, high, sizeof high, &high_len);
+    semver_scan(scans, index, few, 1, &lens[0], few + 1, 1, &lens[1]);
+    if (lens[0] != low_len || lens[1] != high_len || (low_len > 1 && few[0] != 9) || (high_len > 1 && few[1] != 9)) failed = 1;
+    len = item(len, code == SEMVER_YES ? "pre" : "release");
+    return len + sprintf(out + len, "\x1f%.*s\x1f%.*s", (int)low_len, low, (int)high_len, high);
+}
+
+static void scans(const text *t) {
+    semver_req r = {0};
+    semver_scans held = {0};
+    size_t count = 0, len = 0;
+    if (!read_req(t[0], &r)) return;
+    int32_t code = semver_scans_read(&r, pre_releases, &held, &count);
+    for (size_t n = 0; n < count; n++) len = scan(&held, n, len);
+    check(code, FIT, code == SEMVER_YES ? out : NULL, len);
+    semver_scans_free(&held);
+    semver_req_free(&r);
+}
+
 /* The first text says what the other is: a package or a reference. */
 static void why(const text *t) {
     uint32_t what = is(t[0], "package") ? SEMVER_PACKAGE : SEMVER_REFERENCE;
@@ -410,6 +433,7 @@ static const struct call {
     {"common", 2, .ask = common},
     {"common_all", 2, .ask = common_all},
     {"min_version", 2, .ask = min_version},
+    {"scans", 2, .ask = scans},
     {"normal", 1, .ask = normal, .req = semver_normal, .held_req = semver_req_normal},
     {"text", 1, .held_req = semver_req_text},
     {"version_numbers", 0, .ask = version_numbers},

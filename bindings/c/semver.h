@@ -213,7 +213,7 @@ int32_t semver_export_name(const char *path, size_t path_len, char *out, size_t 
  * threads may ask one handle at once, as long as none reads into it or frees it. That is tested, not proved.
  *
  * If a handle is empty, or holds a value of another kind, the code is NO_VALUE: a call that writes a text writes the error message, one
- * that writes a list stores 0 in `*needed`, and all else stays as it was. */
+ * that writes a list stores 0 in `*needed`, and all else stays as it was, unless said otherwise. */
 typedef struct {
     void *at;
 } semver_req;
@@ -226,6 +226,11 @@ typedef struct {
 typedef struct {
     void *at;
 } semver_list;
+
+/* what a range matches, as scans of an index on sort keys */
+typedef struct {
+    void *at;
+} semver_scans;
 
 /* Parses a range into a handle: YES, with its canonical form, or the tag. A value that the handle held before is freed then; for any
  * other code the handle stays as it was. */
@@ -305,6 +310,20 @@ int32_t semver_list_lowest(const semver_list *list, const semver_req *range, uin
 /* The lines of the list that are versions, in the order of precedence: as semver_sort. A line that isn't a version is left out, and
  * `*needed` is the number of the others. */
 int32_t semver_list_sort(const semver_list *list, size_t *places, size_t places_len, size_t *needed);
+
+/* Makes the scans of a range, and puts them into a handle, as semver_req_read does a range: YES, and `*count` is how many there are; or TAG.
+ * The range matches a version exactly if the version's sort key is at or above `low` and below `high` of a scan that is about its kind,
+ * releases or pre-releases; the bytes decide. The scans about releases come first. Those of a kind are in ascending order, with a gap between
+ * one and the next, and none is empty. For any code but YES `handle` and `*count` stay as they were. */
+int32_t semver_scans_read(const semver_req *range, uint32_t pre_releases, semver_scans *handle, size_t *count);
+
+/* Frees the scans that a handle holds: as semver_req_free. */
+void semver_scans_free(semver_scans *handle);
+
+/* The scan at this index, counted from 0: NO, if it is about releases, or YES, if it is about pre-releases. Its keys are written to `low` and
+ * `high`, as every text is. If there is none at the index, that is NO_VALUE, and both lengths are 0, as they are for an empty handle. */
+int32_t semver_scan(const semver_scans *handle, size_t index, char *low, size_t low_len, size_t *low_needed,
+                    char *high, size_t high_len, size_t *high_needed);
 
 /* SEMVER_API of the library: a binding rejects another one when it is loaded. */
 uint32_t semver_api(void);

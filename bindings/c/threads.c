@@ -25,6 +25,7 @@ typedef struct {
     semver_req reqs[VALUES];
     semver_ver versions[VALUES];
     semver_list list;
+    semver_scans scans;
 } handles;
 
 static char *pages;
@@ -91,7 +92,7 @@ static void stop(int number, siginfo_t *fault, void *context) {
 /* Makes the handles and their values, in the pages. */
 static int make(void) {
     char out[1];
-    size_t needed, lines;
+    size_t needed, lines, count;
     int made = 1;
     held = heap_malloc(sizeof *held);
     memset(held, 0, sizeof *held);
@@ -99,11 +100,13 @@ static int make(void) {
         made &= semver_req_read(SEMVER_NPM, TEXT(RANGES[n]), &held->reqs[n], out, 0, &needed) == SEMVER_YES;
         made &= semver_version_read(TEXT(VERSIONS[n]), &held->versions[n], out, 0, &needed) == SEMVER_YES;
     }
-    return made && semver_list_read(TEXT("1.2.3\nx\n1.2.3-alpha.1.beta.2.c+b.1\n4.5.6-x.y.z"), &held->list, &lines) == SEMVER_YES;
+    made &= semver_list_read(TEXT("1.2.3\nx\n1.2.3-alpha.1.beta.2.c+b.1\n4.5.6-x.y.z"), &held->list, &lines) == SEMVER_YES;
+    return made && semver_scans_read(&held->reqs[1], SEMVER_RESTRICTED, &held->scans, &count) == SEMVER_YES;
 }
 
 static const void *value(enum kind kind, int n) {
-    return kind == REQ ? (const void *)&held->reqs[n] : kind == VER ? (const void *)&held->versions[n] : (const void *)&held->list;
+    const void *const of[] = {[NONE] = NULL, [REQ] = &held->reqs[n], [VER] = &held->versions[n], [LIST] = &held->list, [SCANS] = &held->scans};
+    return of[kind];
 }
 
 static int count_of(enum kind kind) {
@@ -155,6 +158,7 @@ static void free_all(void) {
         semver_version_free(&held->versions[n]);
     }
     semver_list_free(&held->list);
+    semver_scans_free(&held->scans);
 }
 
 int main(void) {

@@ -16,7 +16,7 @@ import deno_semver as semver
 PRE = {"restricted": False, "admitted": True}
 # How many options, a grammar and which pre-releases match, stand before the texts of a call.
 OPTIONS = {
-    **dict.fromkeys(("fits", "filter", "best", "lowest", "within", "equivalent", "common", "common_all", "min_version", "explain"), 2),
+    **dict.fromkeys(("fits", "filter", "best", "lowest", "within", "equivalent", "common", "common_all", "min_version", "explain", "scans"), 2),
     **dict.fromkeys(("overlap", "normal", "package", "equal", "is_tag", "ranges", "dependency", "errors", "package_errors"), 1),
     **dict.fromkeys(("sort", "compare", "order", "version", "version_error", "may_be_tag", "reference", "reference_errors"), 0),
     **dict.fromkeys(("version_parts", "name_with_version", "version_reference", "export_name", "key"), 0),
@@ -240,6 +240,9 @@ def of_values(name, texts, options, again):
     if name == "compare":
         one, other = version_of(0), version_of(1)
         return order(int(other.precedes(one)) - int(one.precedes(other)))
+    if name == "scans":
+        scans = range_of(0).scans(**flag)
+        return ["yes", *(text for scan in scans for text in ("pre" if scan.is_pre else "release", scan.low, scan.high))]
     if name == "order":
         one, other = version_of(0), version_of(1)
         return order(int(one > other) - int(one < other))

@@ -104,6 +104,16 @@ export class Version {
   toJSON(): string;
 }
 
+/** Sort keys of releases, or of pre-releases, that a range matches. */
+export interface Scan {
+  /** Whether it is about pre-releases. */
+  isPre: boolean;
+  /** The lowest string that is in it. */
+  low: string;
+  /** The lowest string above it. */
+  high: string;
+}
+
 /**
  * A range, or a tag, that is parsed once. The library holds it until `free()`, or the end of the block of a `using` declaration, or until
  * the object is collected.
@@ -129,6 +139,13 @@ export class Range {
   overlaps(other: Range): boolean;
   /** Whether both ranges have the same bounds, or are the same tag, whatever their texts. */
   equals(other: Range): boolean;
+  /**
+   * What the range matches, as scans of an index on {@link Version.sortKey}: a version matches exactly if its key is in a scan of its kind.
+   * The scans of releases come first. Those of a kind are in ascending order, with a gap between one and the next.
+   * @throws {@link TagError}
+   * @example new Range('^1.2').scans() // [{ isPre: false, low: 'A1A2A0~', high: 'A2A0A0~' }]
+   */
+  scans(): Scan[];
   /** The text. */
   toString(): string;
   /** The text. */

@@ -1,6 +1,8 @@
 // Ranges, and lists of versions, that the library holds between calls.
 
-import { YES, askHeld, codes, currentInstance, handle, isWellFormed, outOfMemory, places, text, wasm, write } from './calls.js';
+import {
+  NO_MEMORY, YES, askHeld, codes, currentInstance, handle, isWellFormed, outOfMemory, places, text, wasm, write,
+} from './calls.js';
 import { errorOf, expectString, kindOf, optionsOf } from './errors.js';
 import { parse } from './held.js';
 import { expectArray, linesOf, textsOf } from './lists.js';
@@ -98,6 +100,13 @@ export class Range {
     return other === this || wasm.range_equal(this.#held.address, expectRange(other, 'other').#held.address) === YES;
   }
 
+  scans() {
+    const code = wasm.range_scans(this.#held.address, this.#options.pre);
+    if (code === NO_MEMORY) throw outOfMemory();
+    if (code !== YES) throw errorOf(code, this.#options.grammar, [this.#text]);
+    return text().split('\n').slice(0, -1).map(scanOf);
+  }
+
   toString() {
     return this.#text;
   }
@@ -109,6 +118,12 @@ export class Range {
   free() {
     this.#held.free();
   }
+}
+
+/** The scan of a line. */
+function scanOf(line) {
+  const [code, low, high] = line.split(' ');
+  return { isPre: Number(code) === YES, low, high };
 }
 
 function expectRange(range, name) {

@@ -58,6 +58,7 @@ static int32_t ask_held_by(address range) {
     if (IS(range_normal)) return wasm_range_normal(range);
     if (IS(range_text)) return wasm_range_text(range);
     if (IS(range_is_tag)) return wasm_range_is_tag(range);
+    if (IS(range_scans)) return wasm_range_scans(range, LAST);
     int32_t code = read_range(b, &other);
     if (code != SEMVER_YES) return code;
     code = IS(range_equal) ? wasm_range_equal(range, other) : wasm_range_overlap(range, other);

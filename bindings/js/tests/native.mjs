@@ -52,6 +52,7 @@ const CALLS = {
   range_normal: ['range', null],
   range_text: ['range', null],
   range_is_tag: ['range', null],
+  range_scans: ['range', null],
   range_overlap: ['range', 'range'],
   range_equal: ['range', 'range'],
   list_filter: ['range', 'versions'],
@@ -123,7 +124,7 @@ function askHeldBy(range, question) {
   const { name, first, last, other } = question;
   if (name.startsWith('list_')) return askList(range, question);
   if (name === 'range_fits') return wasm.range_fits(range, other.length, last);
-  if (CALLS[name][1] === null) return wasm[name](range);
+  if (CALLS[name][1] === null) return wasm[name](range, last);
   const code = wasm.range_read(first, other.length);
   if (code !== 1) return code;
   const second = wasm.handle();

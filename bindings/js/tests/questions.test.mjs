@@ -74,6 +74,7 @@ const WITH_GRAMMAR = {
   package_errors: (o, text) => placeOf(() => semver.parsePackage(text, o)),
   equal: (o, one, other) => yesIf(new Range(one, o).equals(new Range(other, o))),
   is_tag: (o, range) => yesIf(new Range(range, o).tag !== undefined),
+  scans: (o, range) => ['yes', ...new Range(range, o).scans().flatMap(({ isPre, low, high }) => [isPre ? 'pre' : 'release', low, high])],
   package: (o, text) => {
     const parts = packageJson(semver.parsePackage(text, o));
     const name = parts.scope === null ? parts.name : `@${parts.scope}/${parts.name}`;

@@ -133,3 +133,41 @@ EXPORT(int32_t, list_sort)(address list, uint32_t count) {
     int32_t code = to ? semver_list_sort(LIST(list), to, count, &needed) : SEMVER_NO_MEMORY;
     return report_places(code, needed);
 }
+
+/* How many bytes the scan at an index takes in the output, and how many its first key has. */
+static size_t size_of_scan(const semver_scans *scans, size_t index, size_t *low) {
+    char none[2];
+    size_t high;
+    semver_scan(scans, index, none, 0, low, none + 1, 0, &high);
+    return *low + high + 4;
+}
+
+/* Writes a scan behind what is in the output: 0 or 1, the code of semver_scan, and the two keys. */
+static void put_scan(const semver_scans *scans, size_t index) {
+    size_t low, high, size = size_of_scan(scans, index, &low);
+    char *to = output.at + needed;
+    int32_t code = semver_scan(scans, index, to + 2, low, &low, to + low + 3, size - low - 4, &high);
+    to[0] = (char)('0' + code);
+    to[1] = to[low + 2] = ' ';
+    to[size - 1] = '\n';
+    needed += size;
+}
+
+static int32_t put_scans(const semver_scans *scans, size_t count) {
+    size_t low, size = 0;
+    for (size_t i = 0; i < count; i++) size += size_of_scan(scans, i, &low);
+    if (!make_room(&output, size)) return SEMVER_NO_MEMORY;
+    for (size_t i = 0; i < count; i++) put_scan(scans, i);
+    return SEMVER_YES;
+}
+
+/* The scans of a range, a line each. */
+EXPORT(int32_t, range_scans)(address range, uint32_t pre_releases) {
+    semver_scans scans = {0};
+    size_t count;
+    int32_t code = semver_scans_read(RANGE(range), pre_releases, &scans, &count);
+    needed = 0;
+    if (code == SEMVER_YES) code = put_scans(&scans, count);
+    semver_scans_free(&scans);
+    return code;
+}

@@ -49,7 +49,7 @@ from ._functions import (
     parse_version_reference,
     sort,
 )
-from ._values import Range, Version
+from ._values import Range, Scan, Version
 
 __version__ = "0.1.0"
 
@@ -66,6 +66,7 @@ __all__ = [
     "Package",
     "Range",
     "Reference",
+    "Scan",
     "SemverError",
     "TagError",
     "Version",

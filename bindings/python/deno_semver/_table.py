@@ -78,5 +78,8 @@ TABLE: Dict[str, Tuple[Any, ...]] = {
     "list_best": (c_int32, HANDLE, HANDLE, c_uint32, SIZE),
     "list_lowest": (c_int32, HANDLE, HANDLE, c_uint32, SIZE),
     "list_sort": (c_int32, HANDLE, *PLACES, SIZE),
+    "scans_read": (c_int32, HANDLE, c_uint32, HANDLE, SIZE),
+    "scans_free": (None, HANDLE),
+    "scan": (c_int32, HANDLE, c_size_t, *TEXT, SIZE, *TEXT, SIZE),
     "api": (c_uint32,),
 }

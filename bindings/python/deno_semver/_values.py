@@ -3,13 +3,14 @@
 from __future__ import annotations
 
 import re
-from ctypes import byref
+from ctypes import byref, c_size_t, create_string_buffer
 from functools import total_ordering
-from typing import Any, Callable, Optional, Tuple, Union
+from typing import Any, Callable, List, NamedTuple, Optional, Tuple, Union
 
 from ._calls import (
     CALLS,
     GRAMMARS,
+    TAG,
     YES,
     encoded,
     fail_range,
@@ -163,6 +164,25 @@ class Version:
         return CALLS["version_compare"](self._held.lent(), other._held.lent()) == 0
 
 
+class Scan(NamedTuple):
+    """The sort keys from `low` on and below `high`, of releases, or of pre-releases where `is_pre` holds."""
+
+    is_pre: bool
+    low: str
+    high: str
+
+
+def _scan(scans: _Held, index: int) -> Scan:
+    size = 128
+    while True:
+        low, low_len = create_string_buffer(size), c_size_t()
+        high, high_len = create_string_buffer(size), c_size_t()
+        code = CALLS["scan"](scans.lent(), index, low, size, byref(low_len), high, size, byref(high_len))
+        if max(low_len.value, high_len.value) <= size:
+            return Scan(code == YES, low.raw[: low_len.value].decode(), high.raw[: high_len.value].decode())
+        size = max(low_len.value, high_len.value)
+
+
 class Range:
     """A version range, or a tag.
 
@@ -252,7 +272,7 @@ class Range:
     def _answer(self, code: int, version: str) -> bool:
         if code >= 0:
             return code == YES
-        if code == -1:
+        if code == TAG:
             raise TagError("The range is a tag.", self.text)
         fail_version(code, version)
 
@@ -268,6 +288,23 @@ class Range:
         if not isinstance(other, Range):
             wrong_type(other, "other", "Range")
         return CALLS["req_overlap"](self._held.lent(), other._held.lent()) == YES
+
+    def scans(self, *, pre_releases: bool = False) -> List[Scan]:
+        """What the range matches, as scans of an index on `Version.sort_key`: a version matches exactly if its key is in a scan of its kind.
+
+        The scans of releases come first. Those of a kind are in ascending order, with a gap between one and the next.
+
+        >>> Range("^1.2").scans()
+        [Scan(is_pre=False, low='A1A2A0~', high='A2A0A0~')]
+        """
+        handle, count = Handle(), c_size_t()
+        code = CALLS["scans_read"](self._held.lent(), pre_number(pre_releases), byref(handle), byref(count))
+        if code == TAG:
+            raise TagError("The range is a tag.", self.text)
+        if code != YES:
+            raise MemoryError
+        scans = _Held(handle, CALLS["scans_free"])
+        return [_scan(scans, index) for index in range(count.value)]
 
 
 def range_text(value: Any, name: str, grammar: Optional[str]) -> Tuple[bytes, str, int]:

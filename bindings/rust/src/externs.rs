@@ -1,6 +1,6 @@
 //! The C calls as safe functions. Made by bindings/declarations.py from the exports of crates/semver_c/src/lib.rt.
 
-use crate::raw::{calls, Requirement, VersionHandle, Versions};
+use crate::raw::{calls, Requirement, Scans, VersionHandle, Versions};
 
 calls! {
     fn semver_within(grammar: u32, one: &str, other: &str, pre_releases: u32, out: &mut [u8], needed: &mut usize, place: &mut usize) -> i32;
@@ -46,4 +46,7 @@ calls! {
     fn semver_list_best(list: &Versions, range: &Requirement, pre_releases: u32, place: &mut usize) -> i32;
     fn semver_list_lowest(list: &Versions, range: &Requirement, pre_releases: u32, place: &mut usize) -> i32;
     fn semver_list_sort(list: &Versions, places: &mut [usize], needed: &mut usize) -> i32;
+    fn semver_scans_read(range: &Requirement, pre_releases: u32, handle: &mut Scans, count: &mut usize) -> i32;
+    fn semver_scans_free(handle: &mut Scans);
+    fn semver_scan(handle: &Scans, index: usize, low: &mut [u8], low_needed: &mut usize, high: &mut [u8], high_needed: &mut usize) -> i32;
 }

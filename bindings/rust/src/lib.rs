@@ -29,6 +29,7 @@ mod partial;
 mod range;
 #[allow(unsafe_code)]
 mod raw;
+mod scan;
 #[cfg(feature = "serde")]
 mod serde;
 mod string;
@@ -39,6 +40,7 @@ pub use calls::{Grammar, PreRelease};
 pub use error::{ParseErrorFailureError, Place};
 pub use partial::{Partial, XRange};
 pub use range::{PackageTag, RangeBound, RangeSetOrTag, VersionBound, VersionBoundKind, VersionRange, VersionRangeSet};
+pub use scan::Scan;
 pub use string::{SmallStackString, StackString};
 pub use version::{Version, VersionParseError, VersionParts, VersionPreOrBuild};
 pub use version_req::{VersionReq, VersionReqNormalizedParseError, VersionReqSpecifierParseError};

@@ -1,7 +1,7 @@
 //! The only module with `unsafe`: a call of the library, a handle that threads share, and the bytes of a short string.
 
 use crate::calls::{failed, with_text, YES};
-use crate::externs::{semver_list_free, semver_req_free, semver_version_free};
+use crate::externs::{semver_list_free, semver_req_free, semver_scans_free, semver_version_free};
 use crate::string::StackString;
 use std::ffi::c_void;
 use std::ptr;
@@ -86,6 +86,12 @@ handle!(
     /// Parsed versions, one per line.
     Versions,
     semver_list_free
+);
+
+handle!(
+    /// What a range matches.
+    Scans,
+    semver_scans_free
 );
 
 /// How many bytes a short string has at most.

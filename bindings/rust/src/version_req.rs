@@ -7,7 +7,8 @@ use crate::json;
 use crate::lowest::{self, Lowest};
 use crate::npm::NpmVersionReqParseError;
 use crate::range::{RangeSetOrTag, VersionRangeSet};
-use crate::raw::Requirement;
+use crate::raw::{Requirement, Scans};
+use crate::scan::Scan;
 use crate::string::{SmallStackString, StackString};
 use crate::version::Version;
 use std::cmp::Ordering;
@@ -158,6 +159,25 @@ impl VersionReq {
     pub fn min_version(&self, pre_release: PreRelease) -> Lowest {
         let Parsed { grammar, text, .. } = self.parsed();
         lowest::min_version(*grammar, text, pre_release).expect("the text was parsed")
+    }
+
+    /// What matches, as scans of an index on [`Version::sort_key`], by npm's rule for pre-releases or without it; none if this is a tag.
+    ///
+    /// A version matches exactly if its key is in a scan of its kind. The scans of releases come first. Those of a kind are in ascending order,
+    /// with a gap between one and the next.
+    ///
+    /// ```
+    /// # use deno_semver_proved::{PreRelease, VersionReq};
+    /// let scans = VersionReq::parse_from_npm("^1.2").unwrap().scans(PreRelease::Restricted).unwrap();
+    /// assert_eq!((scans[0].is_pre, &scans[0].low[..], &scans[0].high[..]), (false, "A1A2A0~", "A2A0A0~"));
+    /// ```
+    pub fn scans(&self, pre_release: PreRelease) -> Option<Vec<Scan>> {
+        if self.is_tag {
+            return None;
+        }
+        let mut count = 0;
+        let (scans, _) = Scans::read(|it, _, _| semver_scans_read(self.held(), pre_release as u32, it, &mut count));
+        Some((0..count).map(|index| Scan::at(&scans, index)).collect())
     }
 
     /// The order in which packages of one name stand.

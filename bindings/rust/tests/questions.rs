@@ -264,6 +264,15 @@ fn normal(req: &VersionReq) -> String {
     req.to_string_normalized()
 }
 
+/// The scans of a requirement.
+fn scans(req: &VersionReq, pre_release: PreRelease) -> String {
+    let Some(scans) = req.scans(pre_release) else {
+        return "tag".to_string();
+    };
+    let parts = scans.iter().flat_map(|it| [if it.is_pre { "pre" } else { "release" }, &it.low, &it.high]);
+    ["yes"].into_iter().chain(parts).collect::<Vec<_>>().join(US)
+}
+
 fn written<T>(values: [T; 2], text: impl Fn(&T) -> String) -> Answers {
     Ok(values.iter().map(|value| ["yes", &text(value)].join(US).trim_end_matches(US).to_string()).collect())
 }
@@ -326,6 +335,7 @@ fn ask(question: &[&str]) -> Option<Answers> {
         ["ranges", grammar, text] => requirements(grammar, text).and_then(|all| each(all, ranges)),
         ["version", text] => versions(text).and_then(|all| written(all, Version::to_string)),
         ["key", text] => versions(text).and_then(|all| written(all, Version::sort_key)),
+        ["scans", grammar, _, text] => requirements(grammar, text).and_then(|all| each(all, |req| scans(req, flag))),
         ["errors", name, text] => return range_error(name, text),
         ["version_error", text] => version_error(text),
         ["version_numbers", text] => versions(text).and_then(|all| each(all, version_numbers)),

@@ -1,8 +1,11 @@
 -- Questions about values that handles hold.
-use Rattle.std.specs.Prelude.{◌≡◌, ◌⊎◌, ◌↔◌, IsTrue, ℕ, ℤ, List, Bool, Option, Some, None, Result, Ok, Err}
+use Rattle.std.specs.Prelude.{◌≡◌, ◌⊎◌, ◌↔◌, IsTrue, ℕ, ℤ, List, Bool, Option, Some, None, Result, Ok, Err, length, slice_get}
+use Rattle.semver_base.specs.Scans.{ScansAreSorted, ScansFind}
 use Rattle.semver_base.specs.declared.range.PreRelease.{PreRelease}
+use Rattle.semver_base.specs.declared.range.scans.Scan.{Scan}
 use Rattle.semver_base.specs.declared.version.Version.{Version}
-use Rattle.semver_req.specs.Requirement.{Requirement, inner_means_with}
+use Rattle.semver_req.specs.Parsers.{IsReadOrTag}
+use Rattle.semver_req.specs.Requirement.{Requirement, inner_means_with, tag_of}
 use Rattle.semver_req.specs.declared.range_set_or_tag.RangeSetOrTag.{RangeSetOrTag}
 use Rattle.semver_req.specs.declared.range_set_or_tag.RangeSetOrTag.TheVariants as inner
 use Rattle.semver_req.specs.Resolve.{IsBestMatch, IsOnlyMatch}
@@ -13,7 +16,7 @@ use Rattle.semver_c.specs.declared.handles.Held.TheVariants as held
 use Rattle.semver_c.specs.Arguments.{CallFault, NoValue, pre_release_by}
 use Rattle.semver_c.specs.declared.codes.Code.{Code}
 use Rattle.semver_c.specs.declared.codes.Code.TheVariants as code
-use Rattle.semver_c.specs.Codes.{IsPlaced, bool_code, fault_code, no_memory, number_of, place_code, place_or, yes}
+use Rattle.semver_c.specs.Codes.{IsPlaced, bool_code, code_of, fault_code, no_memory, number_of, place_code, place_or, yes}
 
 -- ---- what is held; none in an empty handle, or in one that holds another kind of value
 
@@ -21,19 +24,29 @@ abbrev pub range_in : Option Held → Option Requirement
 range_in (Some (held.Range range)) = Some range
 range_in (Some (held.Version version)) = None
 range_in (Some (held.Versions versions)) = None
+range_in (Some (held.Scans scans)) = None
 range_in None = None
 
 abbrev pub version_in : Option Held → Option Version
 version_in (Some (held.Range range)) = None
 version_in (Some (held.Version version)) = Some version
 version_in (Some (held.Versions versions)) = None
+version_in (Some (held.Scans scans)) = None
 version_in None = None
 
 abbrev pub versions_in : Option Held → Option (List (Option Version))
 versions_in (Some (held.Range range)) = None
 versions_in (Some (held.Version version)) = None
 versions_in (Some (held.Versions versions)) = Some versions.items
+versions_in (Some (held.Scans scans)) = None
 versions_in None = None
+
+abbrev pub scans_in : Option Held → Option (List Scan)
+scans_in (Some (held.Range range)) = None
+scans_in (Some (held.Version version)) = None
+scans_in (Some (held.Versions versions)) = None
+scans_in (Some (held.Scans scans)) = Some scans.items
+scans_in None = None
 
 -- ---- reading into a handle
 
@@ -99,3 +112,30 @@ abbrev pub IsHeldBest : End → ℕ → Option (List (Option Version)) → Optio
 IsHeldBest end number (Some lines) (Some req) old new returned = IsListBest end (pre_release_by number) req.inner lines old new returned
 IsHeldBest end number (Some lines) None old new returned = (returned ≡ code.NoValue) × (new ≡ old)
 IsHeldBest end number None req old new returned = (returned ≡ code.NoValue) × (new ≡ old)
+
+-- ---- what a range matches
+
+-- the code of a range's scans, of which a tag has none
+abbrev pub scans_code : Option (List ℕ) → Code
+scans_code (Some tag) = code.Tag
+scans_code None = code.Yes
+
+-- the code of the scans of a range, or memory ran out
+abbrev pub IsScansCode : Option Requirement → ℤ → Type 0
+IsScansCode range returned =
+    (returned ≡ no_memory) ⊎ (returned ≡ code_of scans_code (of_one (λ (req : Requirement). tag_of req.inner) range))
+
+-- the scans find what a parsed range matches, and are sorted; this is their number
+abbrev pub AreHeldScans : ℕ → Option Requirement → Option (List Scan) → ℕ → Type 0
+AreHeldScans number (Some req) (Some scans) count =
+    (IsReadOrTag req.inner → ScansFind scans (inner_means_with (pre_release_by number) req.inner)) × (ScansAreSorted scans × (count ≡ length scans))
+AreHeldScans number range scans count = ⊥
+
+-- the scan at this index; beyond the last one, and without scans, that is NO_VALUE
+abbrev pub scan_at : ℕ → Option (List Scan) → Result Scan CallFault
+scan_at index (Some scans) = of_one (λ scan. scan) (slice_get scans index)
+scan_at index None = Err NoValue
+
+-- whether a scan is about pre-releases
+abbrev pub scan_code : Scan → Code
+scan_code scan = bool_code scan.is_pre

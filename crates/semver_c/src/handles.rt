@@ -1,4 +1,4 @@
-//! Values that callers keep across calls: a range, a version or several versions on the heap, behind a struct of one pointer.
+//! Values that callers keep across calls: a range, what it matches, a version or several versions on the heap, behind a struct of one pointer.
 //!
 //! C holds such a struct and gives it back. A clause of the handle says what it owns, so each value is freed once, and a call
 //! borrows the value where it lies.
@@ -12,6 +12,7 @@ mod lending;
 mod loose;
 
 use crate::handles::loose::Loose;
+use semver_base::range::scans::Scan;
 use semver_base::version::Version;
 use semver_req::req::VersionReq;
 use std::alloc::{AllocError, Global};
@@ -25,6 +26,8 @@ pub enum Held {
     Version(Version),
     /// The versions of the lines of a text; none for a line that isn't a version.
     Versions(Vec<Option<Version>>),
+    /// What a range matches.
+    Scans(Vec<Scan>),
 }
 
 /// A value on the heap, or none. For C it is a struct of one pointer, which no C code reads.
@@ -43,6 +46,9 @@ pub type VersionHandle = Handle;
 
 /// The handle of several versions.
 pub type VersionListHandle = Handle;
+
+/// The handle of what a range matches.
+pub type ScansHandle = Handle;
 
 impl Model for Handle {
     ghost use Rattle.semver_c.specs.Handle.{owns_held};

@@ -5,7 +5,7 @@
 //! is always stored. A call of several arguments of one kind stores the place of the first that is invalid, counted from 0.
 #![tactic(auto)]
 
-ghost use Rattle.std.specs.Prelude.{◌≡◌, IfSome, IsUtf8, None, ℕ, is_some, length};
+ghost use Rattle.std.specs.Prelude.{◌≡◌, IfSome, IsUtf8, None, ℕ, is_some, length, string_bytes};
 ghost use Rattle.semver_base.specs.Meaning.{release};
 ghost use Rattle.semver_base.specs.Precedence.{precedence_cmp, version_cmp};
 ghost use Rattle.semver_base.specs.SortKey.{sort_key};
@@ -26,7 +26,7 @@ ghost use Rattle.answers.specs.Reading.{IsVersionAt};
 ghost use Rattle.package_answers.specs.References.{ReferenceParts};
 ghost use Rattle.semver_c.specs.Arguments.{pre_release_by};
 ghost use Rattle.semver_c.specs.Codes.{IsCode, IsPlaceReply, IsPlaced, IsReply, IsReported, IsUntouched, IsUntouchedWithoutValue, always_yes, as_place, best_code, best_place, bool_code, code_of, filter_code, filter_numbers, found_code, found_text, lowest_code, lowest_text, match_code, no_place, no_text, number_of, or_message, or_nothing, order_code, text_code, text_of, three_numbers, unqualified_code, yes};
-ghost use Rattle.semver_c.specs.Held.{IsHeld, IsHeldBest, IsHeldEqual, OfHeld, of_both, of_one, range_in, version_in, versions_in};
+ghost use Rattle.semver_c.specs.Held.{AreHeldScans, IsHeld, IsHeldBest, IsHeldEqual, IsScansCode, OfHeld, of_both, of_one, range_in, scan_at, scan_code, scans_in, version_in, versions_in};
 ghost use Rattle.semver_c.specs.Questions.{BestLine, ByOne, ByTwo, CommonBy, CommonOfAll, EquivalentBy, ErrorsBy, ExplainsBy, ExportNameOf, Filters, Fits, LowestBy, MatchesHeld, NumbersOf, OfText, OfTexts, OutsideBy, PackageErrorsBy, RangeBy, ReferenceErrorsOf, SortsOf, TagBy, VersionErrorOf, VersionListOf, WhyBy};
 ghost use Rattle.semver_c.specs.declared.codes.Code.{Code};
 ghost use Rattle.semver_c.specs.declared.codes.Code.TheVariants as code;
@@ -43,7 +43,7 @@ use codes::Code;
 use deno_semver::PreRelease;
 use deno_semver::npm::is_valid_npm_tag;
 use deno_semver::package::cmp_version_reqs;
-use handles::{Held, RequirementHandle, VersionHandle, VersionListHandle};
+use handles::{Held, RequirementHandle, ScansHandle, VersionHandle, VersionListHandle};
 use questions::{
     best_held, best_line, canonical_form, canonical_held, common, common_of_all, dependency_of,
     displayed_held, displayed_version, equivalent_ranges, errors_of, explanation_of,
@@ -1083,6 +1083,76 @@ pub extern "C" fn semver_list_sort(
     ensures no_places { IsUntouched places.old places.new needed.new result }
 {
     report_places(sorted_held(alloc, list.versions()), places, needed)
+}
+
+/// Holds what the range of a handle matches, as scans of sort keys, and frees what the handle of the scans held: yes, and `count` is the
+/// number of scans; or that the range is a tag. For any code but 1 the handle of the scans and `count` stay as they were.
+#[unsafe(no_mangle)]
+pub extern "C" fn semver_scans_read(
+    alloc: Global,
+    range: &mut RequirementHandle,
+    pre_releases: u32,
+    handle: &mut ScansHandle,
+    count: &mut usize,
+) -> i32
+    ensures stays_range { range.new.value ≡ range.old.value }
+    ensures code { IsScansCode (range_in range.old.value) result }
+    ensures scans { result ≡ yes → AreHeldScans pre_releases (range_in range.old.value)
+        (scans_in handle.new.value) count.new }
+    ensures stays { (result ≡ yes → ⊥) → (handle.new.value ≡ handle.old.value)
+        × (count.new ≡ count.old) }
+{
+    let Some(req) = range.range() else {
+        return Code::NoValue.number();
+    };
+    if is_tag(req) {
+        return Code::Tag.number();
+    }
+    let Ok(scans) = req.scans(alloc, pre_release(pre_releases)) else {
+        return Code::NoMemory.number();
+    };
+    let length = scans.len();
+    if handle.hold(alloc, Held::Scans(scans)).is_err() {
+        return Code::NoMemory.number();
+    }
+    *count = length;
+    Code::Yes.number()
+}
+
+/// Frees what the handle holds, if anything, leaving it empty.
+#[unsafe(no_mangle)]
+pub extern "C" fn semver_scans_free(alloc: Global, handle: &mut ScansHandle)
+    ensures { handle.new.value ≡ None }
+{
+    handle.free(alloc);
+}
+
+/// The scan of the handle at this index, counted from 0: yes, if it is about pre-releases, or no, if it is about releases. If there is no
+/// scan at the index, the code is that of a handle without a value.
+#[unsafe(no_mangle)]
+pub extern "C" fn semver_scan(
+    handle: &mut ScansHandle,
+    index: usize,
+    low: &mut [u8],
+    low_needed: &mut usize,
+    high: &mut [u8],
+    high_needed: &mut usize,
+) -> i32
+    ensures stays { handle.new.value ≡ handle.old.value }
+    ensures code { result ≡ code_of scan_code (scan_at index (scans_in handle.old.value)) }
+    ensures low { IsPlaced (or_nothing (λ scan. string_bytes scan.low)
+        (scan_at index (scans_in handle.old.value))) low.old low.new low_needed.new }
+    ensures high { IsPlaced (or_nothing (λ scan. string_bytes scan.high)
+        (scan_at index (scans_in handle.old.value))) high.old high.new high_needed.new }
+{
+    let Some(scan) = handle.scans().and_then(|scans| scans.get(index)) else {
+        put("", low, low_needed);
+        put("", high, high_needed);
+        return Code::NoValue.number();
+    };
+    put(scan.low.as_str(), low, low_needed);
+    put(scan.high.as_str(), high, high_needed);
+    Code::of_bool(scan.is_pre).number()
 }
 
 /// The version of this API: it changes when a call does.

@@ -3,11 +3,12 @@
 ghost use Rattle.std.specs.Prelude.{◌≡◌, Some};
 ghost use Rattle.std.specs.Option.{option_copied};
 ghost use Rattle.semver_c.specs.Handle.{Holds};
-ghost use Rattle.semver_c.specs.Held.{range_in, version_in, versions_in};
+ghost use Rattle.semver_c.specs.Held.{range_in, scans_in, version_in, versions_in};
 ghost use Rattle.semver_c.specs.Lent.{handle_follows, handle_stays};
 ghost use types.Logic.{sem};
 
 use super::{Handle, Held};
+use semver_base::range::scans::Scan;
 use semver_base::version::Version;
 use semver_req::req::VersionReq;
 
@@ -37,7 +38,7 @@ impl Handle {
     {
         match self.held() {
             Some(Held::Range(range)) => Some(range),
-            Some(Held::Version(_) | Held::Versions(_)) | None => None,
+            Some(Held::Version(_) | Held::Versions(_) | Held::Scans(_)) | None => None,
         }
     }
 
@@ -48,7 +49,7 @@ impl Handle {
     {
         match self.held() {
             Some(Held::Version(version)) => Some(version),
-            Some(Held::Range(_) | Held::Versions(_)) | None => None,
+            Some(Held::Range(_) | Held::Versions(_) | Held::Scans(_)) | None => None,
         }
     }
 
@@ -59,7 +60,18 @@ impl Handle {
     {
         match self.held() {
             Some(Held::Versions(versions)) => Some(versions.as_slice()),
-            Some(Held::Range(_) | Held::Version(_)) | None => None,
+            Some(Held::Range(_) | Held::Version(_) | Held::Scans(_)) | None => None,
+        }
+    }
+
+    /// The scans, if what a range matches is held.
+    pub fn scans(&mut self) -> Option<&[Scan]>
+        ensures* stays { sem 𝓛 (handle_stays self.entry) }
+        ensures scans { option_copied result ≡ scans_in self.old.value }
+    {
+        match self.held() {
+            Some(Held::Scans(scans)) => Some(scans.as_slice()),
+            Some(Held::Range(_) | Held::Version(_) | Held::Versions(_)) | None => None,
         }
     }
 }
