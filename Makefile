@@ -22,13 +22,16 @@ STATIC = yes
 DIST = out/dist
 PROGRAMS := crates/ranges/out/ranges crates/npmver/out/npmver
 STRIPPED := out/ranges out/npmver
-LIBRARIES = $(OUT)/$(SONAME) $(OUT)/libdeno_semver.a $(OUT)/deno_semver.pc
+# SQLite's extension, if the compiler finds SQLite's header.
+SQLITE := $(shell echo '\#include <sqlite3ext.h>' | $(CC) -E -x c - >/dev/null 2>&1 && echo $(OUT)/mod_deno_semver.so)
+LIBRARIES = $(OUT)/$(SONAME) $(OUT)/libdeno_semver.a $(OUT)/deno_semver.pc $(SQLITE)
 
 .PHONY: all libraries x86_64 aarch64 try test dist install uninstall version help clean tools
 
 all: tools $(STRIPPED) libraries
 
 libraries: $(LIBRARIES)
+	@[ -n '$(SQLITE)' ] || echo "There is no extension of SQLite: $(CC) finds no sqlite3ext.h (Debian's package libsqlite3-dev)"
 
 help:
 	@echo 'make            prove and build the programs and libraries'
@@ -85,6 +88,11 @@ $(OUT)/$(SONAME): $(ARCHIVE) packaging/libdeno_semver.map | $(OUT)
 $(OUT)/libdeno_semver.a: $(ARCHIVE) | $(OUT)
 	@rm -f $@
 	@printf 'create %s\naddlib %s\naddlib %s\nsave\nend\n' $@ $(ARCHIVE) '$(HEAP)' | $(AR) -MD
+
+# Only what SQLite calls is visible.
+$(OUT)/mod_deno_semver.so: bindings/sqlite/mod_deno_semver.c bindings/sqlite/exports.map bindings/c/semver.h $(OUT)/libdeno_semver.a
+	$(CC) -O2 -Wall -Wextra -fPIC -shared -s -Ibindings/c -o $@ $< $(OUT)/libdeno_semver.a \
+	    -Wl,--version-script=bindings/sqlite/exports.map -Wl,--gc-sections,-z,defs,-z,relro,-z,now
 
 $(OUT)/deno_semver.pc: packaging/deno_semver.pc.in Makefile | $(OUT)
 	@sed 's|@VERSION@|$(VERSION)|' $< >$@

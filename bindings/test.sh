@@ -2,9 +2,9 @@
 # Compares the declarations of the calls with the library's exports. Then builds the library where a source is newer, and tests the
 # bindings over it: C's, also under the checkers of addresses and threads, Python's, and Rust's where cargo is there, with serde and url
 # where Debian's packages are. Each answers the questions of questions.jsonl and runs its examples, over the heap of heap.c, which counts
-# what is alive. Then the npm package over the same library (js/test.sh). It stops at the first failure.
+# what is alive. Then SQLite's extension, and the npm package over the same library (js/test.sh). It stops at the first failure.
 #
-# usage: test.sh [c] [python] [rust] [js] [speed]; by default all but speed, which prints the times of calls.
+# usage: test.sh [c] [python] [rust] [sqlite] [js] [speed]; by default all but speed, which prints the times of calls.
 # OUT is a folder for what is built, by default bindings/out; CC is the C compiler.
 set -e
 here=$(cd "$(dirname "$0")" && pwd)
@@ -132,6 +132,20 @@ rust() {
     SEMVER_LIB=$lib RATTLE_C=$out/heap QUESTIONS=$out/questions.flat offline test --features $features
 }
 
+# SQLite's extension over the counting heap.
+sqlite() {
+    if ! echo '#include <sqlite3ext.h>' | ${CC:-cc} -E -x c - >/dev/null 2>&1 || ! command -v sqlite3 >/dev/null; then
+        echo "SQLite: left out, since there is no sqlite3 or no sqlite3ext.h: apt-get install sqlite3 libsqlite3-dev"
+        return
+    fi
+    echo "SQLite"
+    compile -fPIC -shared -I"$here/c" -o "$out/mod_deno_semver.so" "$here/sqlite/mod_deno_semver.c" -Wl,--whole-archive \
+        "$lib/libsemver_c.a" "$out/heap/liblibc_c.a" -Wl,--no-whole-archive
+    compile -o "$out/rows" "$here/sqlite/rows.c" -lsqlite3 -ldl
+    "$out/rows" "$out/mod_deno_semver.so" "$here/sqlite/rows.txt"
+    python3 "$here/sqlite/check.py" "$out/mod_deno_semver.so"
+}
+
 js() {
     echo "JavaScript"
     "$here/js/test.sh"
@@ -150,9 +164,12 @@ speed() {
     "$here/js/test.sh" speed
 }
 
-[ $# -gt 0 ] || set -- c python rust js
+[ $# -gt 0 ] || set -- c python rust sqlite js
 for part; do
-    case $part in c | python | rust | js | speed) ;; *) echo "usage: test.sh [c] [python] [rust] [js] [speed]" >&2; exit 2 ;; esac
+    case $part in
+        c | python | rust | sqlite | js | speed) ;;
+        *) echo "usage: test.sh [c] [python] [rust] [sqlite] [js] [speed]" >&2; exit 2 ;;
+    esac
 done
 mkdir -p "$out"
 "$here/declarations.py" --check

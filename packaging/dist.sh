@@ -121,7 +121,7 @@ debian() {
     mkdir "$root/DEBIAN"
     if [ -n "$STATIC" ]; then install -D -m 644 packaging/debian/overrides "$share/lintian/overrides/deno-semver"; fi
     size=$(find "$root/usr" -type f -printf '%s\n' | awk '{ kilobytes += int(($1 + 1023) / 1024) } END { print kilobytes }')
-    libc=$(objdump -T "$root/usr/lib/x86_64-linux-gnu/libdeno_semver.so.0" "$root/usr/bin/ranges" "$root/usr/bin/npmver" 2>/dev/null |
+    libc=$(objdump -T "$root"/usr/lib/x86_64-linux-gnu/*.so* "$root/usr/bin/ranges" "$root/usr/bin/npmver" 2>/dev/null |
         grep -o 'GLIBC_[0-9.]*' | sed 's/GLIBC_//' | sort -V | tail -n 1)
     sed -e "s|@VERSION@|$VERSION-1|" -e "s|@SIZE@|$size|" -e "s|@LIBC@|$libc|" packaging/debian/control.in >"$root/DEBIAN/control"
     install -m 644 packaging/debian/triggers "$root/DEBIAN/triggers"
@@ -192,6 +192,9 @@ release() {
         echo 'THE PROGRAMS ARE NOT STATIC.'
     fi
     [ -z "$without" ] || echo "There is no npm package in it: $without."
+    case $ARCHES in *x86_64*)
+        [ -f out/x86_64/mod_deno_semver.so ] || echo 'There is no extension of SQLite in it: the machine has no sqlite3ext.h.'
+    esac
 }
 
 check

@@ -33,6 +33,7 @@ files() {
 644 LICENSE $share/doc/deno-semver/LICENSE
 644 packaging/THIRD-PARTY $share/doc/deno-semver/THIRD-PARTY
 END
+    if [ -f "$from/mod_deno_semver.so" ]; then echo "644 $from/mod_deno_semver.so $LIBDIR/mod_deno_semver.so"; fi
 }
 
 # Whether a folder can be written, or made.
@@ -53,7 +54,7 @@ check() {
 
 remove() {
     files | while read -r _ _ target; do rm -f "$DESTDIR$target"; done
-    rm -f "$DESTDIR$LIBDIR/libdeno_semver.so"
+    rm -f "$DESTDIR$LIBDIR/libdeno_semver.so" "$DESTDIR$LIBDIR/mod_deno_semver.so"
     rmdir "$DESTDIR$PREFIX/share/doc/deno-semver" 2>/dev/null || true
 }
 

@@ -57,7 +57,11 @@ try_c() { # LIBDIR COMPILER COMMAND..
     "$compiler" -o "$root/static" packaging/example.c $(pkg-config --cflags deno_semver) "$libraries/libdeno_semver.a"
     expect yes env LD_LIBRARY_PATH="$libraries" "$@" "$root/shared"
     expect yes "$@" "$root/static"
-    rm "$root/shared" "$root/static"
+    # Within another shared library the calls can stay hidden.
+    "$compiler" -shared -fPIC -o "$root/own.so" packaging/example.c $(pkg-config --cflags deno_semver) "$libraries/libdeno_semver.a" \
+        -Wl,--exclude-libs,libdeno_semver.a
+    if nm -D --defined-only "$root/own.so" | grep ' semver_\| rattle_'; then fail 'a shared library over the archive exports its symbols'; fi
+    rm "$root/shared" "$root/static" "$root/own.so"
 }
 
 # With few commands, make test stops before the proofs, and all that is missing is named at once.
@@ -84,8 +88,8 @@ holds() { # FOLDER
     [ ! -s "$root/found" ] || fail "folders with other modes than 755: $(cat "$root/found")"
 }
 
-# What make install and the tarballs hold alike.
-installed() { # LIBDIR
+# What make install and the tarballs hold alike, of what was built in a folder.
+installed() { # LIBDIR FOLDER
     cat <<END
 755 bin/npmver
 755 bin/ranges
@@ -100,6 +104,23 @@ link $1/libdeno_semver.so libdeno_semver.so.0
 644 share/man/man1/ranges.1
 644 share/zsh/site-functions/_ranges
 END
+    if [ -f "$2/mod_deno_semver.so" ]; then echo "644 $1/mod_deno_semver.so"; fi
+}
+
+# The extension of SQLite in a folder, if it was built.
+try_sqlite() { # LIBDIR
+    extension=$1/mod_deno_semver.so
+    if ! [ -f "$extension" ]; then
+        echo 'packaging: no sqlite3ext.h (Debian package libsqlite3-dev), so there is no extension of SQLite'
+        return
+    fi
+    exported=$(nm -D --defined-only "$extension" | awk '$2 != "A" { print $3 }')
+    [ "$exported" = sqlite3_moddenosemver_init ] || fail "the extension of SQLite exports $exported"
+    if ! has sqlite3; then
+        echo 'packaging: no sqlite3, so its extension is not tried'
+        return
+    fi
+    expect 1 sqlite3 :memory: ".load ${extension%.so}" "select semver_matches('>=1.2 <2 || 3', '1.3.0')"
 }
 
 # Whether a file, or a folder's LICENSE and THIRD-PARTY, has the licence of the project and the notices.
@@ -149,7 +170,7 @@ install_and_remove() {
     rejects 'a PREFIX with whitespace' PREFIX='/a b'
     rejects 'a relative LIBDIR' LIBDIR=lib64
     (umask 077 && make -s install PREFIX=$prefix LIBDIR=$prefix/lib64 DESTDIR="$root/installed" >/dev/null)
-    { installed lib64; printf '644 share/doc/deno-semver/%s\n' LICENSE THIRD-PARTY; } | holds "$here"
+    { installed lib64 out; printf '644 share/doc/deno-semver/%s\n' LICENSE THIRD-PARTY; } | holds "$here"
     licensed "$here/share/doc/deno-semver"
     try_programs "$here"
     completion="$here/share/bash-completion/completions/ranges"
@@ -160,6 +181,7 @@ install_and_remove() {
     PKG_CONFIG_SYSROOT_DIR=$root/installed
     export PKG_CONFIG_SYSROOT_DIR
     try_c "$here/lib64" "${CC:-cc}"
+    try_sqlite "$here/lib64"
     unset PKG_CONFIG_SYSROOT_DIR
     make -s uninstall PREFIX=$prefix LIBDIR=$prefix/lib64 DESTDIR="$root/installed"
     [ -z "$(find "$root/installed" ! -type d)" ] || fail 'make uninstall leaves files'
@@ -194,7 +216,7 @@ try_tarball() { # ARCH COMPILER COMMAND..
     tar -C "$root" -xzf "$root/first/deno_semver-$version-$arch-linux.tar.gz"
     unpacked=$root/deno_semver-$version-$arch-linux
     {
-        installed lib
+        installed lib "out/$arch"
         printf '644 %s\n' LICENSE README.md THIRD-PARTY
         if [ -n "$static" ]; then echo '644 LGPL-2.1'; fi
     } | holds "$unpacked"
@@ -231,12 +253,12 @@ try_debian() {
     expect "$version-1" dpkg-deb -f "$package" Version
     dpkg-deb -x "$package" "$root/unpacked"
     {
-        installed lib/x86_64-linux-gnu | sed -e 's|man1/.*|&.gz|' -e 's|site-functions|vendor-completions|'
+        installed lib/x86_64-linux-gnu out/x86_64 | sed -e 's|man1/.*|&.gz|' -e 's|site-functions|vendor-completions|'
         printf '644 share/doc/deno-semver/%s\n' copyright changelog.Debian.gz
         if [ -n "$static" ]; then echo '644 share/lintian/overrides/deno-semver'; fi
     } | holds "$root/unpacked/usr"
     licensed "$root/unpacked/usr/share/doc/deno-semver/copyright"
-    newest=$(objdump -T "$root"/unpacked/usr/bin/* "$root"/unpacked/usr/lib/*/*.so.0 2>/dev/null | grep -o 'GLIBC_[0-9.]*' | sort -V | tail -n 1)
+    newest=$(objdump -T "$root"/unpacked/usr/bin/* "$root"/unpacked/usr/lib/*/*.so* 2>/dev/null | grep -o 'GLIBC_[0-9.]*' | sort -V | tail -n 1)
     expect "libc6 (>= ${newest#GLIBC_})" dpkg-deb -f "$package" Depends
     if [ "$(id -u)" != 0 ]; then
         echo 'packaging: not root, so the Debian package is not installed'
@@ -247,6 +269,7 @@ try_debian() {
     touch "$system/var/lib/dpkg/status"
     dpkg --root="$system" --force-depends -i "$package" >"$root/dpkg.log" 2>&1 || fail "dpkg -i: $(cat "$root/dpkg.log")"
     try_programs "$system/usr"
+    try_sqlite "$system/usr/lib/x86_64-linux-gnu"
     dpkg --root="$system" -r deno-semver >"$root/dpkg.log" 2>&1 || fail "dpkg -r: $(cat "$root/dpkg.log")"
     [ ! -e "$system/usr" ] || fail 'dpkg -r leaves files'
 }
