@@ -2,9 +2,9 @@
 # Compares the declarations of the calls with the library's exports. Then builds the library where a source is newer, and tests the
 # bindings over it: C's, also under the checkers of addresses and threads, Python's, and Rust's where cargo is there, with serde and url
 # where Debian's packages are. Each answers the questions of questions.jsonl and runs its examples, over the heap of heap.c, which counts
-# what is alive. Then SQLite's extension, and the npm package over the same library (js/test.sh). It stops at the first failure.
+# what is alive. Then the extensions of SQLite and PostgreSQL, and the npm package over the same library (js/test.sh). It stops at the first failure.
 #
-# usage: test.sh [c] [python] [rust] [sqlite] [js] [speed]; by default all but speed, which prints the times of calls.
+# usage: test.sh [c] [python] [rust] [sqlite] [postgres] [js] [speed]; by default all but speed, which prints the times of calls.
 # OUT is a folder for what is built, by default bindings/out; CC is the C compiler.
 set -e
 here=$(cd "$(dirname "$0")" && pwd)
@@ -146,6 +146,19 @@ sqlite() {
     python3 "$here/sqlite/check.py" "$out/mod_deno_semver.so"
 }
 
+# PostgreSQL's extension, in a server of its own.
+postgres() {
+    if ! command -v pg_config >/dev/null || ! [ -e "$(pg_config --pgxs)" ] || ! [ -x "$(pg_config --bindir)/initdb" ]; then
+        echo "PostgreSQL: left out, since there is no server to build for: apt-get install postgresql postgresql-server-dev-15"
+        return
+    fi
+    mkdir -p "$out/postgres/lib" "$out/postgres/include"
+    cp "$here/c/semver.h" "$out/postgres/include"
+    rm -f "$out/postgres/lib/libdeno_semver.a"
+    printf 'create %s\naddlib %s\naddlib %s\nsave\nend\n' "$out/postgres/lib/libdeno_semver.a" "$lib/libsemver_c.a" "$kit/liblibc_c.a" | ar -M
+    "$here/postgres/test.sh" "$out/postgres"
+}
+
 js() {
     echo "JavaScript"
     "$here/js/test.sh"
@@ -164,11 +177,11 @@ speed() {
     "$here/js/test.sh" speed
 }
 
-[ $# -gt 0 ] || set -- c python rust sqlite js
+[ $# -gt 0 ] || set -- c python rust sqlite postgres js
 for part; do
     case $part in
-        c | python | rust | sqlite | js | speed) ;;
-        *) echo "usage: test.sh [c] [python] [rust] [sqlite] [js] [speed]" >&2; exit 2 ;;
+        c | python | rust | sqlite | postgres | js | speed) ;;
+        *) echo "usage: test.sh [c] [python] [rust] [sqlite] [postgres] [js] [speed]" >&2; exit 2 ;;
     esac
 done
 mkdir -p "$out"

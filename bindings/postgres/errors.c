@@ -1,0 +1,169 @@
+/* Strings and errors. */
+#include "deno_semver.h"
+
+#include "lib/stringinfo.h"
+#include "mb/pg_wchar.h"
+#include "utils/builtins.h"
+#include "utils/guc.h"
+#include "utils/jsonb.h"
+#include "utils/numeric.h"
+
+PG_MODULE_MAGIC;
+
+/* PostgreSQL 15 has no soft errors. */
+#if PG_VERSION_NUM < 160000
+#define errsave(context, ...) ereport(ERROR, __VA_ARGS__)
+#endif
+
+enum { MOST_OF_RANGE = 65536 };
+
+static int max_length = 256;
+
+PGDLLEXPORT void _PG_init(void);
+
+void _PG_init(void) {
+    if (semver_api() != SEMVER_API) elog(ERROR, "the library has the API %u, and deno_semver needs %d", semver_api(), SEMVER_API);
+    DefineCustomIntVariable("deno_semver.max_length", "Sets how many bytes a version may have.", NULL, &max_length, 256, 5, MOST_OF_RANGE, PGC_USERSET,
+                            0, NULL, NULL, NULL);
+#if PG_VERSION_NUM >= 150000
+    MarkGUCPrefixReserved("deno_semver");
+#endif
+}
+
+/* ---- strings */
+
+void sv_begin(sv_written *it) {
+    it->at = it->near;
+    it->room = sizeof it->near;
+    it->len = 0;
+}
+
+/* Whether a call must be repeated, since it had too little room, and has enough now. */
+bool sv_must_repeat(sv_written *it) {
+    if (it->len <= it->room) return false;
+    it->at = palloc(it->len);
+    it->room = it->len;
+    return true;
+}
+
+sv_string sv_utf8(const char *string) {
+    char *utf8 = pg_server_to_any(string, (int)strlen(string), PG_UTF8);
+    return (sv_string){utf8, strlen(utf8)};
+}
+
+const char *sv_server(const char *utf8, size_t len) {
+    char *copy = pnstrdup(utf8, len);
+    return pg_any_to_server(copy, (int)strlen(copy), PG_UTF8);
+}
+
+text *sv_text(const char *utf8, size_t len) {
+    return cstring_to_text(sv_server(utf8, len));
+}
+
+uint32_t sv_grammar(const text *name) {
+    static const char *const NAMES[] = {[SEMVER_NPM] = "npm", [SEMVER_NORMALIZED] = "normalized", [SEMVER_STRICT] = "strict"};
+    char *given = text_to_cstring(name);
+    for (uint32_t grammar = 0; grammar < lengthof(NAMES); grammar++)
+        if (strcmp(given, NAMES[grammar]) == 0) return grammar;
+    ereport(ERROR, errcode(ERRCODE_INVALID_PARAMETER_VALUE), errmsg("there is no grammar \"%s\"", given),
+            errhint("Use \"npm\", \"normalized\" or \"strict\"."));
+    return SEMVER_NPM;
+}
+
+/* ---- errors */
+
+/* Errors that have nothing to do with a string. */
+static void reject_call(int32_t code) {
+    if (code == SEMVER_NO_MEMORY) ereport(ERROR, errcode(ERRCODE_OUT_OF_MEMORY), errmsg("out of memory"));
+    if (code == SEMVER_NOT_UTF8) ereport(ERROR, errcode(ERRCODE_CHARACTER_NOT_IN_REPERTOIRE), errmsg("a version or a range isn't UTF-8"));
+    if (code == SEMVER_NO_VALUE || code == SEMVER_NO_GRAMMAR) elog(ERROR, "unexpected code %d", code);
+}
+
+static bool is_inside(char byte) {
+    return (byte & 0xC0) == 0x80;
+}
+
+static int characters(const char *at, size_t len) {
+    int count = 0;
+    for (size_t n = 0; n < len; n++) count += !is_inside(at[n]);
+    return count;
+}
+
+/* The string around a byte, and below it a caret. */
+static const char *caret_at(sv_string string, size_t place) {
+    enum { AROUND = 40 };
+    size_t from = place > AROUND ? place - AROUND : 0, to = string.len - place > AROUND ? place + AROUND : string.len;
+    while (from > 0 && is_inside(string.at[from])) from--;
+    while (to < string.len && is_inside(string.at[to])) to++;
+    StringInfoData shown;
+    initStringInfo(&shown);
+    appendStringInfoString(&shown, from > 0 ? "..." : "");
+    for (size_t n = from; n < to; n++) appendStringInfoChar(&shown, (unsigned char)string.at[n] < ' ' ? ' ' : string.at[n]);
+    appendStringInfo(&shown, "%s\n", to < string.len ? "..." : "");
+    appendStringInfoSpaces(&shown, (from > 0 ? 3 : 0) + characters(string.at + from, place - from));
+    appendStringInfoChar(&shown, '^');
+    return sv_server(shown.data, (size_t)shown.len);
+}
+
+static const char *server(sv_string string) {
+    return sv_server(string.at, string.len);
+}
+
+void sv_reject_version(Node *context, sv_string version, int32_t code) {
+    size_t place = 0;
+    sv_written message;
+    reject_call(code);
+    SV_WRITES(code, &message, semver_version(SV_BYTES(version), SV_OUT(&message)));
+    reject_call(code);
+    reject_call(semver_version_error(SV_BYTES(version), &place));
+    errsave(context, (errcode(ERRCODE_INVALID_TEXT_REPRESENTATION), errmsg("invalid input syntax for type semver: \"%s\"", server(version)),
+                      errdetail("%s\nAt character %d:\n%s", sv_server(message.at, message.len), characters(version.at, place) + 1,
+                                caret_at(version, place))));
+}
+
+/* The first error of a range, from the JSON of semver_errors: where it is, and what could be there. */
+static size_t first_error(uint32_t grammar, sv_string range, StringInfo expected) {
+    sv_written json;
+    int32_t code;
+    SV_WRITES(code, &json, semver_errors(grammar, SV_BYTES(range), SV_OUT(&json)));
+    reject_call(code);
+    initStringInfo(expected);
+    Jsonb *errors = DatumGetJsonbP(DirectFunctionCall1(jsonb_in, CStringGetDatum(sv_server(json.at, json.len))));
+    JsonbValue *error = getIthJsonbValueFromContainer(&errors->root, 0);
+    if (!error) return 0;
+    JsonbValue *kinds = getKeyJsonValueFromContainer(error->val.binary.data, "expected", strlen("expected"), NULL);
+    uint32 count = JsonContainerSize(kinds->val.binary.data);
+    for (uint32 n = 0; n < count; n++) {
+        JsonbValue *kind = getIthJsonbValueFromContainer(kinds->val.binary.data, n);
+        appendStringInfo(expected, "%s%.*s", n == 0 ? "" : ", ", kind->val.string.len, kind->val.string.val);
+    }
+    JsonbValue *start = getKeyJsonValueFromContainer(error->val.binary.data, "start", strlen("start"), NULL);
+    return (size_t)DatumGetInt32(DirectFunctionCall1(numeric_int4, NumericGetDatum(start->val.numeric)));
+}
+
+void sv_reject_range(Node *context, uint32_t grammar, sv_string range, int32_t code) {
+    sv_written message;
+    StringInfoData expected;
+    reject_call(code);
+    if (code == SEMVER_TAG) {
+        errsave(context, (errcode(ERRCODE_INVALID_TEXT_REPRESENTATION), errmsg("\"%s\" is a tag, and no range of versions", server(range)),
+                          errhint("Only the registry knows which version a tag names. Store tags in a column of their own.")));
+        return;
+    }
+    SV_WRITES(code, &message, semver_normal(grammar, SV_BYTES(range), SV_OUT(&message)));
+    reject_call(code);
+    size_t place = first_error(grammar, range, &expected);
+    errsave(context, (errcode(ERRCODE_INVALID_TEXT_REPRESENTATION), errmsg("invalid input syntax for type semver_range: \"%s\"", server(range)),
+                      errdetail("%s\nAt character %d:\n%s", sv_server(message.at, message.len), characters(range.at, place) + 1,
+                                caret_at(range, place)),
+                      expected.len > 0 ? errhint("Expected there: %s.", expected.data) : 0));
+}
+
+/* Whether a string is too long, which is an error. A call of the library can't be cancelled, so ranges have a limit, too. */
+bool sv_is_long(Node *context, sv_string string, const char *type) {
+    int most = strcmp(type, "semver") == 0 ? max_length : MOST_OF_RANGE;
+    if (string.len <= (size_t)most) return false;
+    errsave(context, (errcode(ERRCODE_PROGRAM_LIMIT_EXCEEDED), errmsg("a %s may have %d bytes, and this one has %zu", type, most, string.len),
+                      most == max_length ? errhint("deno_semver.max_length sets the limit.") : 0));
+    return true;
+}

@@ -1,0 +1,39 @@
+CREATE TABLE versions(package text, version semver, written text);
+INSERT INTO versions SELECT 'p' || i % 10, v::semver, v
+  FROM generate_series(1, 5000) i,
+    LATERAL (SELECT (i % 7) || '.' || (i % 5) || '.' || i % 50 || CASE WHEN i % 6 = 0 THEN '-a.' || i % 9 ELSE '' END AS v) x;
+CREATE INDEX ON versions(version);
+CREATE INDEX ON versions(package, version);
+CREATE INDEX ON versions(semver_try(written));
+ANALYZE versions;
+SET enable_seqscan = off;
+EXPLAIN (COSTS OFF) SELECT * FROM versions WHERE version <@ '~1.2.0';
+EXPLAIN (COSTS OFF) SELECT * FROM versions WHERE semver_range '~1.2.0' @> version;
+EXPLAIN (COSTS OFF) SELECT * FROM versions WHERE semver_try(written) <@ '~1.2.0';
+EXPLAIN (COSTS OFF) SELECT * FROM versions WHERE version <@ '1.2.3 || ^5.1';
+EXPLAIN (COSTS OFF) SELECT version FROM versions WHERE package = 'p3' AND version <@ '^1 || ^3' ORDER BY version DESC LIMIT 1;
+EXPLAIN (COSTS OFF) SELECT * FROM (VALUES ('p3', '^1.2'::semver_range)) d(package, range),
+  LATERAL (SELECT version FROM versions v WHERE v.package = d.package AND version <@ d.range ORDER BY version DESC LIMIT 1) x;
+PREPARE matching(semver_range) AS SELECT count(*) FROM versions WHERE version <@ $1;
+SET plan_cache_mode = force_generic_plan;
+EXPLAIN (COSTS OFF) EXECUTE matching('^1 || ^3');
+-- by each way the same rows
+CREATE TABLE ranges(r semver_range);
+INSERT INTO ranges VALUES ('1.2.3 || ^5.1'), ('^1 || ^3'), ('~1.2.0'), ('*'), ('>=1.2.0-a.1 <1.2.5 || 6.x'), ('>3'), ('<0.0.0'), ('<=2.1.1-a.3');
+CREATE FUNCTION counts(how text) RETURNS TABLE(range text, by_constant bigint, by_parameter bigint, by_join bigint, by_scans bigint) LANGUAGE plpgsql AS $$
+DECLARE it semver_range;
+BEGIN
+  EXECUTE how;
+  FOR it IN SELECT r FROM ranges LOOP
+    range := it::text;
+    EXECUTE format('SELECT count(*) FROM versions WHERE version <@ %L::semver_range', it) INTO by_constant;
+    EXECUTE format('EXECUTE matching(%L)', it) INTO by_parameter;
+    SELECT count(*) INTO by_join FROM ranges JOIN versions ON version <@ r WHERE r::text = it::text;
+    SELECT count(*) INTO by_scans FROM semver_scans(it) s JOIN versions v
+      ON semver_is_pre(version) = s.is_pre AND semver_key(version) >= s.low AND semver_key(version) < s.high;
+    RETURN NEXT;
+  END LOOP;
+END $$;
+SET client_min_messages = error;
+SELECT * FROM counts('SET enable_seqscan = off');
+SELECT * FROM counts('SET enable_seqscan = on; SET enable_indexscan = off; SET enable_bitmapscan = off; SET enable_indexonlyscan = off');

@@ -1,0 +1,28 @@
+-- What is stored: partitions, COPY in both formats, checks of indexes. The tables stay, for a dump.
+CREATE EXTENSION deno_semver;
+CREATE EXTENSION amcheck;
+CREATE TABLE kept(package text, version semver, accepts semver_range, bound semver_bound, PRIMARY KEY (package, version))
+  PARTITION BY LIST (package);
+CREATE TABLE kept_a PARTITION OF kept FOR VALUES IN ('a');
+CREATE TABLE kept_others PARTITION OF kept DEFAULT;
+INSERT INTO kept SELECT CASE n % 3 WHEN 0 THEN 'a' ELSE 'b' || n % 3 END,
+    (n % 7 || '.' || n % 11 || '.' || n || CASE n % 5 WHEN 0 THEN '-rc.' || n % 13 WHEN 1 THEN '+b.' || n ELSE '' END)::semver,
+    ('^' || n % 7 || '.' || n % 11 || ' || >=' || n % 5 || '.0.0-rc.1 <9')::semver_range, semver_range_high(('~' || n % 7)::semver_range)
+  FROM generate_series(1, 2000) n;
+INSERT INTO kept VALUES ('a', '1.0.0+a', '*'), ('a', '1.0.0+b', '*');
+CREATE INDEX by_precedence ON kept_a(version semver_precedence_ops);
+CREATE INDEX by_key ON kept(semver_is_pre(version), semver_key(version));
+CREATE INDEX by_bound ON kept(bound);
+CREATE INDEX by_hash ON kept USING hash (version);
+SELECT count(bt_index_check(i.indexrelid, true)) FROM pg_index i JOIN pg_class c ON c.oid = indexrelid JOIN pg_am a ON a.oid = relam
+  WHERE indrelid IN ('kept_a'::regclass, 'kept_others'::regclass) AND amname = 'btree';
+SELECT tableoid::regclass, count(*), max(version), min(version), count(*) FILTER (WHERE version <@ accepts) AS accepted FROM kept GROUP BY 1 ORDER BY 1;
+CREATE TABLE copied(LIKE kept);
+\set file :folder/copied
+COPY (SELECT * FROM kept) TO :'file' (FORMAT binary);
+COPY copied FROM :'file' (FORMAT binary);
+SELECT count(*) FROM kept JOIN copied USING (package, version) WHERE kept.accepts::text = copied.accepts::text AND kept.bound IS NOT DISTINCT FROM copied.bound;
+TRUNCATE copied;
+COPY (SELECT * FROM kept) TO :'file';
+COPY copied FROM :'file';
+SELECT count(*) FROM kept JOIN copied USING (package, version) WHERE kept.accepts::text = copied.accepts::text AND kept.bound IS NOT DISTINCT FROM copied.bound;
