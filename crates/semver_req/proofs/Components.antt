@@ -3,15 +3,15 @@ use Rattle.std.proofs.Common.{◌≡◌, ◌≤◌, ◌^◌, ℕ, true, List, []
 use Rattle.std.specs.Char.{is_ascii_digit}
 use Rattle.std.proofs.lemmas.Bool.{cases_Bool}
 use Rattle.std.proofs.lemmas.Bool.Decides.{nat_tests}
-use Rattle.semver_base.specs.Grammar.{IsLongest, IsSeen}
+use Rattle.semver_base.specs.Grammar.{IsLongest, IsSeen, Joined}
 use Rattle.semver_base.specs.Lexical.{IsLooseNumber, IsNumber, IsNumberEnd, IsQualifier, sized}
 use Rattle.semver_base.specs.declared.lexical.values.Measured.{Measured}
 use Rattle.semver_base.specs.declared.lexical.values.Qualifier.{Qualifier}
 use Rattle.semver_base.specs.declared.partial.XRange.{XRange}
 use Rattle.semver_base.specs.declared.partial.XRange.TheVariants.{Wildcard, Val}
-use Rattle.semver_base.specs.GrammarLaws.{NoClash, joined, prefixed_some}
+use Rattle.semver_base.specs.GrammarLaws.{NoClash, joined}
 use Rattle.semver_base.specs.TokenLaws.{loose_begins, loose_end, loose_some, number_is_loose, strict_no_digit}
-use Rattle.semver_req.specs.Partials.{IsComponent, IsThird, component_of, is_wildcard, sized_component, strictness_of}
+use Rattle.semver_req.specs.Partials.{IsComponent, component_of, is_wildcard, sized_component, strictness_of}
 use Rattle.semver_req.specs.declared.common.values.Flavour.{Flavour}
 use Rattle.semver_req.specs.declared.common.values.Flavour.TheVariants.{Npm, Normal, Specifier}
 use Rattle.semver_req.proofs.GrammarFacts.{component_goes}
@@ -97,6 +97,7 @@ component_clash f = record {
       seam (component_goes_first f x a m v u short long) ((component_goes f).goes x (record { front = a; more = m; short_value = v; long_value = u; short = short; long = long }));
 }
 
--- the longest third part
-pub third_longest : (f : Flavour) {text after middle rest : List ℕ} {v : XRange} {q : Qualifier} → text ≡ 46 ∷ after → IsLongest (IsComponent f) after v middle → IsLongest (IsQualifier (strictness_of f)) middle q rest → IsLongest (IsThird f) text (v, q) rest
-third_longest f {rest = rest} {q = q} e a b = prefixed_some e (joined (component_clash f) a b (component_end f a b.front rest q b.text_is b.stands))
+-- the longest component with a qualifier
+pub third_longest : (f : Flavour) {text middle rest : List ℕ} {v : XRange} {q : Qualifier} → IsLongest (IsComponent f) text v middle → IsLongest (IsQualifier (strictness_of f)) middle q rest
+    → IsLongest (Joined IsNumberEnd (IsComponent f) (IsQualifier (strictness_of f))) text (v, q) rest
+third_longest f {rest = rest} {q = q} a b = joined (component_clash f) a b (component_end f a b.front rest q b.text_is b.stands)

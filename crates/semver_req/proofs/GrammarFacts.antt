@@ -2,7 +2,7 @@
 use Rattle.std.proofs.Common.{◌≡◌, ℕ, Bool, true, false, not, ◌||◌, ◌==◌, List, [], ◌∷◌, ◌++◌, refl, arith}
 use Rattle.std.specs.Char.{is_ascii_digit}
 use Rattle.std.specs.List.{list_all}
-use Rattle.std.proofs.lemmas.Bool.{and_parts, both_ways}
+use Rattle.std.proofs.lemmas.Bool.{and_parts, both_ways, not_from_true}
 use Rattle.std.proofs.lemmas.Bool.Decides.{nat_tests}
 use Rattle.semver_base.specs.Comparators.{Bare, Caret, Comparator, Hyphen, OfPrimitive, Tilde}
 use Rattle.semver_base.specs.Grammar.{After, Either, that, Listed, Optional, Prefixed}
@@ -23,7 +23,7 @@ use Rattle.semver_req.specs.declared.common.values.Flavour.{Flavour}
 use Rattle.semver_req.specs.declared.common.values.Flavour.TheVariants.{Npm, Normal, Specifier}
 use Rattle.semver_req.proofs.Grammars as rule
 use Rattle.semver_req.proofs.GrammarTexts.{InComparator, InComponent, InPartial, IsCaretOf, IsTildeOf, bare_described, bare_partial_described, caret_described, comparator_described, component_described, equals_described, filled_described, hyphen_described, hyphened_described, ignored_described, kind_described, led_described, list_operator_described, loose_digits, operators_described, partial_described, primitive_described, separator_described, tilde_described, tildes_described, v_described}
-use Rattle.semver_req.proofs.RuleFacts.{IsUnder, apart_from, begins_in, goes_in, begins_first, is_apart, is_going, made_in, made_of_all, marked, never_both, no_common, one_mark, plain, some_by, under}
+use Rattle.semver_req.proofs.RuleFacts.{IsUnder, apart_from, begins_in, goes_in, begins_first, is_apart, is_going, goes_without, made_in, made_of_all, marked, never_both, no_common, one_mark, plain, some_by, under}
 use Rattle.semver_req.proofs.RuleLaws.{made, overlap_there}
 use Rattle.semver_req.proofs.RuleTexts.{Any, Describes, Each, after_described, before_described, bytes, either_described, listed_described, prefixed_described}
 use Rattle.semver_req.proofs.Rules.{Bytes, Rule, all_bytes, alt, byte, firsts, has, Holds, is_void, letter, many, Many, minus, no_more, nullable, one_more, optional, overlap, seq, steps}
@@ -93,6 +93,9 @@ component_under f = under (loose_digits (strictness_of f)) (component_described 
 pub bare_partial_under : (f : Flavour) → IsUnder (IsBarePartial f) (plain (rule.bare_partial f))
 bare_partial_under f = under (loose_digits (strictness_of f)) (bare_partial_described Free f) free_partial
 
+v_bare_under : IsUnder (Prefixed 118 (IsBarePartial Npm)) (plain (seq (letter 118) (rule.bare_partial Npm)))
+v_bare_under = under (loose_digits Loose) (prefixed_described 118 (omega arith) (bare_partial_described Free Npm)) free_partial
+
 partial_under : (f : Flavour) → IsUnder (IsPartial f) (plain (rule.partial f))
 partial_under f = under (loose_digits (strictness_of f)) (partial_described Free f) free_partial
 
@@ -120,7 +123,7 @@ tilde_under f = under (loose_digits (strictness_of f)) (tilde_described Free f) 
 caret_under : (f : Flavour) → IsUnder (IsCaretOf f) (plain (rule.caret f))
 caret_under f = under (loose_digits (strictness_of f)) (caret_described Free f) free_comparator
 
-operators_under : (f : Flavour) → IsUnder (Either (IsTildeOf f) (IsCaretOf f)) (plain (alt (rule.tilde f) (rule.caret f)))
+pub operators_under : (f : Flavour) → IsUnder (Either (IsTildeOf f) (IsCaretOf f)) (plain (alt (rule.tilde f) (rule.caret f)))
 operators_under f = under (loose_digits (strictness_of f)) (operators_described Free f) free_comparator
 
 primitive_under : (f : Flavour) → IsUnder (IsOfPrimitive f) (plain (rule.primitive f))
@@ -195,6 +198,10 @@ partial_passes x h = grind (arith, nat_tests)
 pub any_begins : (f : Flavour) → BeginsBy (IsPartial f) is_partial_byte
 any_begins f = begins_in (partial_under f) is_partial_byte partial_bytes partial_passes (flavours (λ f. is_void (minus (firsts (steps (plain (rule.partial f)))) partial_bytes) ≡ true) refl refl refl f)
 
+-- a text with a `v` in front isn't one without
+pub v_bare : Never (Prefixed 118 (IsBarePartial Npm)) (IsBarePartial Npm)
+v_bare = never_both v_bare_under (bare_partial_under Npm) refl
+
 -- ---- comparison operators
 
 abbrev pub is_primitive_kind_byte : ℕ → Bool
@@ -219,13 +226,6 @@ pub whitespace_apart : (f : Flavour) → Apart IsWhitespace (IsPartial f)
 whitespace_apart f = apart_from whitespace_under (partial_under f) (flavours (λ f. failing (is_apart (firsts (steps (plain (rule.partial f))))) (plain rule.whitespace) ≡ []) refl refl refl f)
 
 -- ---- comparators
-
--- the bytes of a partial version
-abbrev pub bare_bytes : Bytes
-bare_bytes = (42, 44) ∷ ((45, 47) ∷ ((48, 58) ∷ ((65, 91) ∷ ((97, 123) ∷ []))))
-
-going : (f : Flavour) → failing (is_going bare_bytes) (plain (rule.comparator f)) ≡ []
-going = flavours (λ f. failing (is_going bare_bytes) (plain (rule.comparator f)) ≡ []) refl refl refl
 
 pub comparator_some : (f : Flavour) → NonEmpty (IsComparator f)
 comparator_some f = some_by (comparator_under f) (flavours (λ f. nullable (plain (rule.comparator f)) ≡ false) refl refl refl f)
@@ -266,26 +266,26 @@ pub whitespace_operator : Apart IsWhitespace (After IsListOperator IsWhitespace)
 whitespace_operator = apart_from whitespace_under operator_behind_under refl
 
 -- the bytes with which comparators begin, and those of separators
-abbrev starts : Flavour → Bytes
+abbrev pub starts : Flavour → Bytes
 starts f = firsts (steps (plain (rule.comparator f)))
 
 abbrev between : Flavour → Bytes
 between f = all_bytes (plain (rule.separator f))
 
 -- no byte is in both
-disjoint : (s t : Bytes) → overlap s t ≡ false → Disjoint (has s) (has t)
+pub disjoint : (s t : Bytes) → overlap s t ≡ false → Disjoint (has s) (has t)
 disjoint s t e x h k = both_ways (overlap s t) e (overlap_there s t x h k)
 
--- the lists of each grammar
-pub listing : (f : Flavour) → IsListing (IsComparator f) (IsSeparator f) (has (starts f)) (has bare_bytes) (has (between f)) (has (between f))
+-- the lists of each grammar: no comparator goes on with a byte of a separator
+pub listing : (f : Flavour) → IsListing (IsComparator f) (IsSeparator f) (has (starts f)) (λ x. not (has (between f) x)) (has (between f)) (has (between f))
 listing f = record {
   item_some = comparator_some f;
   separator_some = some_by (separators_under f) (flavours (λ f. nullable (plain (rule.separator f)) ≡ false) refl refl refl f);
   item_begins = begins_first (comparator_under f);
-  item_goes = goes_in (comparator_under f) (has bare_bytes) bare_bytes (λ x h. h) (going f);
+  item_goes = goes_without (comparator_under f) (between f) (flavours (λ f. failing (is_apart (between f)) (plain (rule.comparator f)) ≡ []) refl refl refl f);
   separator_begins = begins_from_made (made_of_all (separators_under f));
   separator_goes = goes_from_made (made_of_all (separators_under f));
-  after_item = disjoint bare_bytes (between f) (flavours (λ f. overlap bare_bytes (between f) ≡ false) refl refl refl f);
+  after_item = λ x h k. both_ways (not (has (between f) x)) (not_from_true (has (between f) x) k) h;
   after_separator = disjoint (between f) (starts f) (flavours (λ f. overlap (between f) (starts f) ≡ false) refl refl refl f);
 }
 

@@ -60,6 +60,7 @@ pub mod WhitespaceTexts
 pub mod GrammarTexts
 pub mod RuleFacts
 pub mod GrammarFacts
+pub mod GrammarParts
 pub mod Endings
 pub mod ViableParts
 pub mod Alternatives

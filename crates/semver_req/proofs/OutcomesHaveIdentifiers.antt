@@ -10,7 +10,7 @@ use Rattle.semver_base.specs.declared.partial.Partial.{Partial}
 use Rattle.semver_base.specs.declared.partial.XRange.{XRange}
 use Rattle.semver_base.specs.declared.range.VersionRange.{VersionRange}
 use Rattle.semver_base.specs.WrittenLaws.{by_after, by_mapped, by_prefixed, qualifier_has}
-use Rattle.semver_req.specs.Comparators.{fits, IsComparator, IsLed, HasOperator, IsOfPrimitive, IsBare}
+use Rattle.semver_req.specs.Comparators.{fits, IsComparator}
 use Rattle.semver_req.specs.RetainedSet.{retained}
 use Rattle.semver_req.specs.Outcome.{AreGoodOnes, IsCutOutcome, IsGood, IsOutcome, IsSpecifierOutcome, IsTagOr, Outcome, Ranges, Rejected, Tag, bad, good, left_over, no_fit, no_front, no_tag, none_left, normal_many, normal_rejected, npm_many, one_bad, one_good, tag, whole}
 use Rattle.semver_req.specs.Partials.{IsPartial, IsBarePartial, IsSecond, IsThird, partial_of, strictness_of}
@@ -19,6 +19,7 @@ use Rattle.semver_req.specs.Pieces.{IsFilled, IsHyphen, IsNpmSeparator, IsPiece}
 use Rattle.semver_req.specs.declared.common.values.Flavour.{Flavour}
 use Rattle.semver_req.specs.declared.common.values.Flavour.TheVariants.{Normal, Npm, Specifier}
 use Rattle.semver_req.specs.declared.range_set_or_tag.pieces.RangeOrInvalid.TheVariants as read
+use Rattle.semver_req.proofs.GrammarParts.{HasPartial, at_dot, bare, caret, comparator_partial, primitive, tilde}
 use Rattle.semver_req.proofs.OutcomesFit.{outcome_fits}
 use Rattle.semver_req.proofs.WritableRanges.{AllHaveIdentifiers, ComparatorHasIdentifiers, PartialHasIdentifiers, TreeHasIdentifiers, retained_range_writable, retained_writable}
 
@@ -26,13 +27,11 @@ use Rattle.semver_req.proofs.WritableRanges.{AllHaveIdentifiers, ComparatorHasId
 
 third_has : (f : Flavour) (m n : XRange) (text : List ℕ) (o : Option (XRange × Qualifier)) → Optional (IsThird f) text o → PartialHasIdentifiers (partial_of (m, Some (n, o)))
 third_has f m n text None h = (tt, tt)
-third_has f m n [] (Some v) h = absurd h
-third_has f m n (b ∷ rest) (Some (p, q)) h = qualifier_has (strictness_of f) h.1.second q h.1.in_second
+third_has f m n text (Some (p, q)) h = let k = (at_dot _ f text (p, q) h).stands in qualifier_has (strictness_of f) k.second q k.in_second
 
 second_has : (f : Flavour) (m : XRange) (text : List ℕ) (o : Option (XRange × Option (XRange × Qualifier))) → Optional (IsSecond f) text o → PartialHasIdentifiers (partial_of (m, o))
 second_has f m text None h = (tt, tt)
-second_has f m [] (Some v) h = absurd h
-second_has f m (b ∷ rest) (Some (n, o)) h = third_has f m n h.1.second o h.1.in_second
+second_has f m text (Some (n, o)) h = let k = (at_dot _ f text (n, o) h).stands in third_has f m n k.second o k.in_second
 
 bare_has : (f : Flavour) (text : List ℕ) (p : Partial) → IsBarePartial f text p → PartialHasIdentifiers p
 bare_has f text p h = by_mapped PartialHasIdentifiers (λ t v k. second_has f v.0 k.second v.1 k.in_second) h
@@ -45,29 +44,14 @@ partial_has Specifier text p h = bare_has Specifier text p h
 
 -- ---- comparators
 
-primitive_has : (f : Flavour) (text : List ℕ) (c : Comparator) → IsOfPrimitive f text c → ComparatorHasIdentifiers c
-primitive_has f text c h = by_mapped ComparatorHasIdentifiers (λ t v k. by_after PartialHasIdentifiers (partial_has f) k.in_second) h
-
-bare_comparator_has : (f : Flavour) (text : List ℕ) (c : Comparator) → IsBare f text c → ComparatorHasIdentifiers c
-bare_comparator_has f text c h = by_mapped ComparatorHasIdentifiers (partial_has f) h
-
-operator_form_has : (f : Flavour) (text : List ℕ) (c : Comparator) → HasOperator f text c → ComparatorHasIdentifiers c
-operator_form_has f text c (this h) = by_mapped ComparatorHasIdentifiers (by_prefixed 126 (IsPartial f) PartialHasIdentifiers (partial_has f)) h
-operator_form_has f text c (that h) = by_mapped ComparatorHasIdentifiers (by_prefixed 94 (IsPartial f) PartialHasIdentifiers (partial_has f)) h
-
-led_has : (text : List ℕ) (p : Partial) → IsLed text p → PartialHasIdentifiers p
-led_has text p h = by_after PartialHasIdentifiers (λ t v k. by_after PartialHasIdentifiers (λ t v k. by_after PartialHasIdentifiers (λ t v k. by_after PartialHasIdentifiers (partial_has Npm) k) k) k) h
+made_has : (f : Flavour) {c : Comparator} → HasPartial f c → ComparatorHasIdentifiers c
+made_has f (tilde text h) = partial_has f text _ h
+made_has f (caret text h) = partial_has f text _ h
+made_has f (primitive text h) = partial_has f text _ h
+made_has f (bare text h) = partial_has f text _ h
 
 comparator_has : (f : Flavour) (text : List ℕ) (c : Comparator) → IsComparator f text c → ComparatorHasIdentifiers c
-comparator_has Npm text c (this (this h)) = by_mapped ComparatorHasIdentifiers (λ t v k. by_after PartialHasIdentifiers (λ t v k. by_after PartialHasIdentifiers led_has k) k) h
-comparator_has Npm text c (this (that h)) = by_mapped ComparatorHasIdentifiers (λ t v k. by_after PartialHasIdentifiers (λ t v k. by_prefixed 94 IsLed PartialHasIdentifiers led_has t v k) k) h
-comparator_has Npm text c (that (this h)) = primitive_has Npm text c h
-comparator_has Npm text c (that (that h)) = bare_comparator_has Npm text c h
-comparator_has Normal text c (this h) = operator_form_has Normal text c h
-comparator_has Normal text c (that (this h)) = primitive_has Normal text c h
-comparator_has Normal text c (that (that h)) = bare_comparator_has Normal text c h
-comparator_has Specifier text c (this h) = operator_form_has Specifier text c h
-comparator_has Specifier text c (that h) = bare_comparator_has Specifier text c h
+comparator_has f text c h = made_has f (comparator_partial f text c h)
 
 -- ---- pieces
 

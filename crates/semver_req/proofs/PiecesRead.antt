@@ -35,6 +35,7 @@ use Rattle.semver_req.specs.declared.range_set_or_tag.RangeSetOrTag.{RangeSetOrT
 use Rattle.semver_req.specs.declared.range_set_or_tag.RangeSetOrTag.TheVariants as inner
 use Rattle.semver_req.specs.Written.{IsFront, comparator_of}
 use Rattle.semver_req.specs.declared.common.comparator.Written.{Written}
+use Rattle.semver_req.proofs.GrammarParts.{comparator_partial}
 use Rattle.semver_req.proofs.PieceReadings.{whitespace_piece, piece_one}
 
 -- ---- one piece
@@ -79,17 +80,7 @@ module _ {V : Type 0} {R : List ℕ → V → Type 0} {text : List ℕ} where
 
 -- no comparator of a list is a hyphen range
 no_hyphen : (f : Flavour) (text : List ℕ) (p q : Partial) → IsComparator f text (Hyphen p q) → ⊥
-no_hyphen Npm text p q (this (this h)) = let is = h.is in cc is
-no_hyphen Npm text p q (this (that h)) = let is = h.is in cc is
-no_hyphen Npm text p q (that (this h)) = let is = h.is in cc is
-no_hyphen Npm text p q (that (that h)) = let is = h.is in cc is
-no_hyphen Normal text p q (this (this h)) = let is = h.is in cc is
-no_hyphen Normal text p q (this (that h)) = let is = h.is in cc is
-no_hyphen Normal text p q (that (this h)) = let is = h.is in cc is
-no_hyphen Normal text p q (that (that h)) = let is = h.is in cc is
-no_hyphen Specifier text p q (this (this h)) = let is = h.is in cc is
-no_hyphen Specifier text p q (this (that h)) = let is = h.is in cc is
-no_hyphen Specifier text p q (that h) = let is = h.is in cc is
+no_hyphen f text p q h = elim (comparator_partial f text (Hyphen p q) h) [ ]
 
 module _ (f : Flavour) where
   one_retained : (text : List ℕ) (c : Comparator) → IsComparator f text c → retained_range (c ∷ []) ≡ folded (map comparator_range (c ∷ []))

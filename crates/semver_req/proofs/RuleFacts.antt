@@ -138,6 +138,9 @@ no_common a b e t h k =
     let two = and_from (has (firsts (all_steps st)) 257) (has (firsts (all_steps st)) 258) first second in
     both_ways (not (has (firsts (all_steps st)) 257 && has (firsts (all_steps st)) 258)) (not_from_true (has (firsts (all_steps st)) 257 && has (firsts (all_steps st)) 258) two) (each one_mark (marked a b) e t)
 
+outside : (s : Bytes) (x : ℕ) → (has s x ≡ true → ⊥) → not (has s x) ≡ true
+outside s x never = ap not (false_from_ne_true (has s x) never)
+
 module _ {V : Type 0} {A : List ℕ → V → Type 0} {r : Rule} (a : IsUnder A r) where
   pub some_by : nullable r ≡ false → NonEmpty A
   some_by e = record { some = λ v h. both_ways (nullable r) e (nullable_into r (a.into [] v h)) }
@@ -156,6 +159,14 @@ module _ {V : Type 0} {A : List ℕ → V → Type 0} {r : Rule} (a : IsUnder A 
 
   pub goes_in : (p : ℕ → Bool) (s : Bytes) → ((x : ℕ) → has s x ≡ true → p x ≡ true) → failing (is_going s) r ≡ [] → GoesBy A p
   goes_in p s w e = record { goes = λ x o. w x (goes_on r s e o.front x (continues r o.front x o.more (a.into o.front o.short_value o.short) (a.into (o.front ++ (x ∷ o.more)) o.long_value o.long))) }
+
+  -- where a text may end, it doesn't go on with bytes of the set
+  pub goes_without : (s : Bytes) → failing (is_apart s) r ≡ [] → GoesBy A (λ x. not (has s x))
+  goes_without s e = record { goes = λ x o. outside s x (never_on r s e o.front x (continues r o.front x o.more (a.into o.front o.short_value o.short) (a.into (o.front ++ (x ∷ o.more)) o.long_value o.long))) }
+
+  -- no text has a byte of the set
+  pub made_without : (s : Bytes) → overlap (all_bytes r) s ≡ false → MadeOf A (λ x. not (has s x))
+  made_without s e = record { made = λ t v h. list_all-wider (has (all_bytes r)) (λ x. not (has s x)) (λ x k. outside s x (λ l. both_ways (overlap (all_bytes r) s) e (overlap_there (all_bytes r) s x k l))) t (made_all r t (a.into t v h)) }
 
   module _ {W : Type 0} {B : List ℕ → W → Type 0} {q : Rule} (b : IsUnder B q) where
     -- where a text of A goes on, no text of B begins

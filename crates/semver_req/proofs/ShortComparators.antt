@@ -1,5 +1,5 @@
 -- What the grammars make of plain texts.
-use Rattle.std.proofs.Common.{◌≡◌, ◌≢◌, ◌<◌, ◌^◌, ◌==◌, ℕ, zero, suc, Bool, true, false, List, [], ◌∷◌, ◌++◌, length, Option, Some, None, refl, sym, subst, ap, ◌∙◌, arith, inl, inr, append-nil, append_assoc, length-append, lt-ltb, Bor, ◌+◌, ◌||◌, IfSome, MatchOption, codes, if◌then◌else◌, nat_lt, unwrap_or, nat_cmp, Greater, Less}
+use Rattle.std.proofs.Common.{◌≡◌, ◌≢◌, ◌<◌, ◌^◌, ◌==◌, ℕ, zero, suc, Bool, true, false, List, [], ◌∷◌, ◌++◌, length, Option, Some, None, refl, sym, subst, ap, ◌∙◌, arith, inl, inr, append-nil, append_assoc, length-append, lt-ltb, Bor, ◌+◌, ◌||◌, IfSome, MatchOption, if◌then◌else◌, nat_lt, unwrap_or, nat_cmp, Greater, Less}
 use Rattle.std.specs.Char.{is_ascii_digit}
 use Rattle.std.specs.List.{list_all}
 use Rattle.std.specs.Str.{trim}
@@ -9,7 +9,7 @@ use Rattle.std.proofs.lemmas.Str.Pattern.{IsSplitOnceResult, split_parts}
 use Rattle.std.specs.Cmp.{nat_cmp_is}
 use Rattle.semver_base.specs.Clamp.{clamped, clamped_start}
 use Rattle.semver_base.specs.Comparators.{Comparator, Hyphen, OfPrimitive, comparator_line, comparator_range, greater, less, primitive_kind_text, primitive_line}
-use Rattle.semver_base.specs.Grammar.{this, that, After, HasNone, IsLongest, IsSeen, Prefixed, closed_item, last_item, more_items}
+use Rattle.semver_base.specs.Grammar.{this, that, HasNone, IsLongest, IsSeen, closed_item, last_item, more_items}
 use Rattle.semver_base.specs.Meaning.{bound_at, everything, from, release}
 use Rattle.semver_base.specs.Overlap.{ends_at_zero}
 use Rattle.semver_base.specs.Lexical.{IsWhitespace, IsLooseNumber, IsNumber, IsQualifier}
@@ -33,12 +33,11 @@ use Rattle.semver_base.specs.declared.range.VersionBoundKind.TheVariants as kind
 use Rattle.semver_base.specs.declared.range.VersionRange.{VersionRange}
 use Rattle.semver_base.specs.declared.version.Version.{Version}
 use Rattle.semver_base.specs.ByteLaws.{list_all-append, list_all-wider}
-use Rattle.semver_base.specs.GrammarLaws.{prefixed_other}
 use Rattle.semver_base.specs.SolidLaws.{ends_solid, is_solid_byte, qualifier_made, solid_all_ascii, starts_solid, trim_same}
 use Rattle.semver_base.specs.TokenLaws.{loose_begins, loose_some, no_qualifier}
 use Rattle.semver_base.specs.WrittenLaws.{after}
 use Rattle.semver_base.specs.ShortLaws.{short_solid, IsSolid}
-use Rattle.semver_req.specs.Comparators.{IsComparator, IsPrimitive, numbers}
+use Rattle.semver_req.specs.Comparators.{IsComparator, numbers}
 use Rattle.semver_req.specs.RetainedSet.{retained, retained_range, without_none}
 use Rattle.semver_req.specs.Outcome.{one_good, Ranges}
 use Rattle.semver_req.specs.Partials.{IsComponent, IsPartial, IsBarePartial, is_wildcard, partial_fits, sized_component, sized_partial, strictness_of}
@@ -65,13 +64,14 @@ use Rattle.semver_req.proofs.Fitting.{comparator_all, fitting, numbers_all, whol
 use Rattle.semver_req.proofs.Folding.{upper_ends}
 use Rattle.semver_req.proofs.Joining.{fitting_partial}
 use Rattle.semver_req.proofs.Operators.{non_primitive_some}
-use Rattle.semver_req.proofs.Partials.{no_whitespace, not_led, one_read, three_read, two_read}
+use Rattle.semver_req.proofs.GrammarParts.{IsDotted, at_dot, no_whitespace, non_primitive, plain_dot, with_primitive}
+use Rattle.semver_req.proofs.Partials.{not_led, one_read, three_read, two_read}
 use Rattle.semver_req.proofs.PiecesRead.{filled_read, reported_same}
-use Rattle.semver_req.proofs.SpecifierRetained.{is_non_primitive, non_primitive_ends, non_primitive_retained}
+use Rattle.semver_req.proofs.SpecifierRetained.{kind_non_primitive, non_primitive_ends, non_primitive_retained}
 use Rattle.semver_req.proofs.Stabilizing.{less_stays}
 use Rattle.semver_req.proofs.SpecifierRanges.{range_reading}
 use Rattle.semver_req.proofs.Star.{star_alternatives, star_any}
-use Rattle.semver_req.proofs.Wider.{npm_led, pieces_wider}
+use Rattle.semver_req.proofs.Wider.{pieces_wider}
 use Rattle.semver_req.proofs.WrittenSets.{no_bar, one_whitespace}
 
 -- ---- numbers
@@ -100,11 +100,11 @@ number_seen f {text} {rest} {n} p = component_read f text (λ b more wild e. wil
 -- three numbers, and a qualifier
 pub numbers_seen : (f : Flavour) {text rest end : List ℕ} {m n p : ℕ} {q : Qualifier} → IsTripleFront text m n p rest → IsLongest (IsQualifier (strictness_of f)) rest q end
     → IsSeen sized_partial (IsBarePartial f) text (Fits (record { major = Val m; minor = Val n; patch = Val p; pre = q.pre; build = q.build })) end
-numbers_seen f t qualifier = three_read f (number_seen f t.major) refl (number_seen f t.minor) refl (number_seen f t.patch) qualifier
+numbers_seen f t qualifier = three_read f (number_seen f t.major) (plain_dot f) refl (number_seen f t.minor) (plain_dot f) refl (number_seen f t.patch) qualifier
 
 -- nothing continues with a dot
-nothing_more : {V : Type 0} {A : List ℕ → V → Type 0} → HasNone (Prefixed 46 A) []
-nothing_more = prefixed_other (λ rest e. cc e)
+nothing_more : {V : Type 0} {A : List ℕ → V → Type 0} (f : Flavour) → HasNone (IsDotted f A) []
+nothing_more {A = A} f = record { none = λ a b w e h. cc (e ∙ ap (λ t. t ++ b) (at_dot A f a w h).text_is) }
 
 -- a wildcard
 wild_seen : (f : Flavour) (b : ℕ) (rest : List ℕ) → is_wildcard f b ≡ true → IsSeen sized_component (IsComponent f) (b ∷ rest) (Fits Wildcard) rest
@@ -124,14 +124,14 @@ two_behind more rest first second is = rw (first.text_is, second.text_is, nothin
 
 -- numbers, and wildcards behind them
 front_seen : (f : Flavour) {text rest : List ℕ} (n : ShortNumbers) → IsShortFront text n rest → AreWildcards f n rest → IsSeen sized_partial (IsBarePartial f) text (Fits (of_short n)) []
-front_seen f (short_numbers.One m) p no_wildcard = one_read f (number_seen f p) nothing_more
-front_seen f (short_numbers.Two m n) p no_wildcard = two_read f (number_seen f p.major) refl (number_seen f p.minor) nothing_more
+front_seen f (short_numbers.One m) p no_wildcard = one_read f (number_seen f p) (nothing_more f)
+front_seen f (short_numbers.Two m n) p no_wildcard = two_read f (number_seen f p.major) (plain_dot f) refl (number_seen f p.minor) (nothing_more f)
 front_seen f (short_numbers.Three n) t no_wildcard = numbers_seen f t (no_qualifier (strictness_of f))
-front_seen f (short_numbers.One m) p (one_wildcard b fewer wild) = two_read f (number_seen f p) refl (wild_seen f b [] wild) nothing_more
-front_seen f (short_numbers.Two m n) p (one_wildcard b fewer wild) = three_read f (number_seen f p.major) refl (number_seen f p.minor) refl (wild_seen f b [] wild) (no_qualifier (strictness_of f))
+front_seen f (short_numbers.One m) p (one_wildcard b fewer wild) = two_read f (number_seen f p) (plain_dot f) refl (wild_seen f b [] wild) (nothing_more f)
+front_seen f (short_numbers.Two m n) p (one_wildcard b fewer wild) = three_read f (number_seen f p.major) (plain_dot f) refl (number_seen f p.minor) (plain_dot f) refl (wild_seen f b [] wild) (no_qualifier (strictness_of f))
 front_seen f (short_numbers.Three n) t (one_wildcard b fewer wild) = absurd fewer
 front_seen f (short_numbers.One m) p (two_wildcards b c wild last) =
-    three_read f (number_seen f p) refl (wild_seen f b (46 ∷ c ∷ []) wild) refl (wild_seen f c [] last) (no_qualifier (strictness_of f))
+    three_read f (number_seen f p) (plain_dot f) refl (wild_seen f b (46 ∷ c ∷ []) wild) (plain_dot f) refl (wild_seen f c [] last) (no_qualifier (strictness_of f))
 
 partial_seen : (f : Flavour) {text : List ℕ} (n : ShortNumbers) → IsShortPartial f text n → IsSeen sized_partial (IsBarePartial f) text (Fits (of_short n)) []
 partial_seen f n p = front_seen f n p.front p.wildcards
@@ -193,17 +193,6 @@ module _ (f : Flavour) {text : List ℕ} {range : VersionRange} (p : IsQualified
 
 space_alone : IsWhitespace (32 ∷ []) tt
 space_alone = one_whitespace.1
-
-is_normal : (text : List ℕ) (c : Comparator) → IsNonPrimitive Normal text c → IsComparator Normal text c
-is_normal text c (this h) = this h
-is_normal text c (that h) = that (that h)
-
-is_npm : (text : List ℕ) (c : Comparator) → IsNonPrimitive Npm text c → IsComparator Npm text c
-is_npm [] c (this (this m)) = absurd m.stands
-is_npm (b ∷ rest) c (this (this m)) = this (this (record { value = m.value; stands = after [] (b ∷ rest) None refl (rw m.stands.0 (after (codes "~") rest tt (that refl) (npm_led rest m.value m.stands.1))); is = m.is }))
-is_npm [] c (this (that m)) = absurd m.stands
-is_npm (b ∷ rest) c (this (that m)) = this (that (record { value = m.value; stands = after [] (b ∷ rest) None refl (m.stands.0, npm_led rest m.value m.stands.1); is = m.is }))
-is_npm text c (that m) = that (that m)
 
 alone : (f : Flavour) → IsCutting f → (text : List ℕ) (c : Comparator) → IsComparator f text c → IsFilled f text (c ∷ [])
 alone f npm text c h = that (last_item h)
@@ -279,24 +268,15 @@ without_bar {text} h = no_bar text (list_all-wider is_plain_byte is_no_bar plain
 
 -- ---- comparators without a comparison operator, as pieces
 
-kind_non_primitive : (f : Flavour) {text : List ℕ} {c : Comparator} → IsNonPrimitive f text c → is_non_primitive c ≡ true
-kind_non_primitive f (this (this m)) = ap is_non_primitive m.is
-kind_non_primitive f (this (that m)) = ap is_non_primitive m.is
-kind_non_primitive f (that m) = ap is_non_primitive m.is
-
-as_comparator : (f : Flavour) → IsCutting f → (text : List ℕ) (c : Comparator) → IsNonPrimitive f text c → IsComparator f text c
-as_comparator f npm text c h = is_npm text c h
-as_comparator f normal text c h = is_normal text c h
-
 single_piece : (f : Flavour) → IsCutting f → (text : List ℕ) {range : VersionRange} → IsSolid text → IsSingle f text (Range range) → IsShortPiece f text range
 single_piece f cuts text solid (is_range {c} longest numbers sums) =
     let stands = whole_front longest in
-    let kind = kind_non_primitive f stands in
+    let kind = kind_non_primitive f text c stands in
     record {
       first = c;
       others = [];
-      filled = alone f cuts text c (as_comparator f cuts text c stands);
-      closed = alone_closed f cuts text c (as_comparator f cuts text c stands);
+      filled = alone f cuts text c (non_primitive f cuts text c stands);
+      closed = alone_closed f cuts text c (non_primitive f cuts text c stands);
       is = all_retained (c ∷ []) (comparator_range c) (rw numbers refl) (rw sums refl) (sym (non_primitive_retained c kind));
       is_kept = non_primitive_ends c kind;
       no_bar = without_bar (unspaced solid);
@@ -347,23 +327,13 @@ gap_whitespace gap (inr e) = rw e space_alone
 
 compares : (kind : PrimitiveKind) {text : List ℕ} (gap rest : List ℕ) (n : ShortNumbers) → IsGap gap → text ≡ primitive_kind_text kind ++ (gap ++ rest) → IsShortPartial Normal rest n → IsComparison text kind n
 compares kind {text} gap rest n is_gap e h = record {
-  stands = that (this (record { value = (kind, of_short n); stands = both; is = refl }));
+  stands = rw e (with_primitive Normal normal kind gap rest (of_short n) (gap_whitespace gap is_gap) whole.0);
   numbers = comparator_all (operator.Primitive kind) (of_short n) ∙ whole.1;
   spaced = rw e (gap_spaced (primitive_kind_text kind) gap rest is_gap (kind_solid kind) (partial_solid Normal rest n h));
 }
   where
     whole : IsPartial Normal rest (of_short n) × (partial_fits (of_short n) ≡ true)
     whole = short_whole Normal n h
-
-    behind : After IsWhitespace (IsPartial Normal) (gap ++ rest) (of_short n)
-    behind = record {
-      value = (tt, of_short n);
-      stands = record { first = gap; second = rest; text_is = refl; in_first = gap_whitespace gap is_gap; in_second = whole.0; seam = tt };
-      is = refl;
-    }
-
-    both : IsPrimitive Normal text (kind, of_short n)
-    both = record { first = primitive_kind_text kind; second = gap ++ rest; text_is = e; in_first = refl; in_second = behind; seam = tt }
 
 starts : {text : List ℕ} {start : RangeBound} (p : IsShortStart text start) → IsComparison text (greater p.kind) p.numbers
 starts p = compares (greater p.kind) p.gap p.rest p.numbers p.is_gap p.text_is p.short_partial

@@ -4,7 +4,7 @@ use Rattle.std.specs.Char.{is_ascii_digit}
 use Rattle.std.specs.Str.Parse.{digits_value}
 use Rattle.std.proofs.lemmas.Bool.{and_parts, cases_Bool, false_from_ne_true}
 use Rattle.std.proofs.lemmas.Bool.Decides.{nat_tests}
-use Rattle.semver_base.specs.Grammar.{Followed, IsLongest, Joined, Optional, Prefixed, Stops}
+use Rattle.semver_base.specs.Grammar.{Followed, IsLongest, Joined, Optional, Stops}
 use Rattle.semver_base.specs.Lexical.{IsLooseNumber, IsNumberEnd, IsQualifier}
 use Rattle.semver_base.specs.declared.lexical.values.Qualifier.{Qualifier}
 use Rattle.semver_base.specs.declared.lexical.values.Strictness.TheVariants.{Loose, Strict}
@@ -19,6 +19,7 @@ use Rattle.semver_base.specs.TokenLaws.{loose_goes, loose_some, strict_zero, num
 use Rattle.semver_req.proofs.Components.{component_number, component_wildcard, wildcard_no_digit}
 use Rattle.semver_req.proofs.Partials.{component_dot_apart}
 use Rattle.semver_req.proofs.GrammarFacts.{component_goes}
+use Rattle.semver_req.proofs.GrammarParts.{IsDot, IsDotted, at_dot, dot_no_digit, dotted_of, normal_dot}
 
 -- ---- prefixes that are only known to be the longest
 
@@ -73,14 +74,13 @@ module _ {V W : Type 0} {A : List ℕ → V → Type 0} {C : List ℕ → W → 
 
 -- ---- a part that a dot begins
 
+abbrev NoDot : List ℕ → Type 0
+NoDot text = (b : ℕ) (more : List ℕ) → IsDot Specifier b → text ≡ b ∷ more → ⊥
+
 -- a text that doesn't begin with a dot has none
-no_dot : {V : Type 0} {D : List ℕ → V → Type 0} {text rest : List ℕ} (o : Option V) → ((more : List ℕ) → text ≡ 46 ∷ more → ⊥) → Longest (Optional (Prefixed 46 D)) text o rest → o ≡ None
+no_dot : {V : Type 0} {D : List ℕ → V → Type 0} {text rest : List ℕ} (o : Option V) → NoDot text → Longest (Optional (IsDotted Specifier D)) text o rest → o ≡ None
 no_dot None other h = refl
-no_dot {D = D} {text} {rest} (Some v) other h = absurd (go h.front h.text_is h.stands)
-  where
-    go : (front : List ℕ) → text ≡ front ++ rest → Prefixed 46 D front v → ⊥
-    go [] e k = k
-    go (x ∷ front) e k = other (front ++ rest) (e ∙ ap (λ z. z ∷ (front ++ rest)) k.0)
+no_dot {D = D} {rest = rest} (Some v) other h = let k = at_dot D Specifier h.front v h.stands in absurd (other k.byte (k.rest ++ rest) k.is_dot (h.text_is ∙ ap (λ t. t ++ rest) k.text_is))
 
 record AfterDot {V : Type 0} (D : List ℕ → V → Type 0) (text : List ℕ) (o : Option V) (rest : List ℕ) : Type 0 where
   value : V
@@ -88,22 +88,20 @@ record AfterDot {V : Type 0} (D : List ℕ → V → Type 0) (text : List ℕ) (
   longest : Longest D text value rest
 
 -- a part is found where a text of it is
-dot : {V : Type 0} {D : List ℕ → V → Type 0} {text rest : List ℕ} (o : Option V) (a b : List ℕ) (w : V) → text ≡ a ++ b → D a w → Longest (Optional (Prefixed 46 D)) (46 ∷ text) o rest → AfterDot D text o rest
-dot {text = text} None a b w e k h =
-    let long = h.longest (46 ∷ a) b (Some w) (ap (λ t. 46 ∷ t) e) (refl, k) in
+dot : {V : Type 0} {D : List ℕ → V → Type 0} {text rest : List ℕ} (x : ℕ) → IsDot Specifier x → (o : Option V) (a b : List ℕ) (w : V) → text ≡ a ++ b → D a w → Longest (Optional (IsDotted Specifier D)) (x ∷ text) o rest → AfterDot D text o rest
+dot {D = D} x is None a b w e k h =
+    let long = h.longest (x ∷ a) b (Some w) (ap (λ t. x ∷ t) e) (dotted_of D Specifier x a w is k) in
     absurd (omega (arith, long, ap length h.stands))
-dot {V} {D} {text} {rest} (Some v) a b w e k h = go h.front h.text_is h.stands h.longest
-  where
-    go : (front : List ℕ) → 46 ∷ text ≡ front ++ rest → Prefixed 46 D front v → ((a b : List ℕ) (o : Option V) → 46 ∷ text ≡ a ++ b → Optional (Prefixed 46 D) a o → length a ≤ length front) → AfterDot D text (Some v) rest
-    go [] f m long = absurd m
-    go (x ∷ front) f m long = record {
+dot {D = D} {rest = rest} x is (Some v) a b w e k h =
+    let found = at_dot D Specifier h.front v h.stands in
+    record {
       value = v;
       is = refl;
       longest = record {
-        front = front;
-        text_is = cc f;
-        stands = m.1;
-        longest = λ a b w e k. omega (arith, long (46 ∷ a) b (Some w) (ap (λ t. 46 ∷ t) e) (refl, k));
+        front = found.rest;
+        text_is = cc (h.text_is ∙ ap (λ t. t ++ rest) found.text_is);
+        stands = found.stands;
+        longest = λ a b w e k. omega (arith, h.longest (x ∷ a) b (Some w) (ap (λ t. x ∷ t) e) (dotted_of D Specifier x a w is k), ap length found.text_is);
       };
     }
 
@@ -205,11 +203,11 @@ IsCut p q = IsCutOf p.major p.minor p.patch q.major q.minor q.patch
 -- neither a digit nor a dot follows
 pub record IsPast (text : List ℕ) : Type 0 where
   pub no_digit : Stops is_ascii_digit text
-  pub no_dot : (more : List ℕ) → text ≡ 46 ∷ more → ⊥
+  pub no_dot : NoDot text
 
-digit_no_dot : (text : List ℕ) → BeginsByDigit text → (more : List ℕ) → text ≡ 46 ∷ more → ⊥
-digit_no_dot [] d more e = d
-digit_no_dot (x ∷ rest) d more e = let byte : x ≡ 46 = cc e in grind (arith, nat_tests)
+digit_no_dot : (text : List ℕ) → BeginsByDigit text → NoDot text
+digit_no_dot [] d b more is e = d
+digit_no_dot (x ∷ rest) d b more is e = let byte : x ≡ b = cc e in dot_no_digit Specifier b is (rw byte at d)
 
 after_number : (a q w : List ℕ) → IsNumberEnd a q → IsPast w → is_ascii_digit (slice_index a 0) ≡ true → Stops is_ascii_digit (q ++ w)
 after_number a [] w seam past d = past.no_digit
@@ -217,6 +215,12 @@ after_number a (y ∷ q) w seam past d = false_from_ne_true (is_ascii_digit y) (
 
 abbrev Thirds : List ℕ → XRange × Qualifier → Type 0
 Thirds = Joined IsNumberEnd (IsComponent Specifier) (IsQualifier Strict)
+
+abbrev NormalThirds : List ℕ → XRange × Qualifier → Type 0
+NormalThirds = Joined IsNumberEnd (IsComponent Normal) (IsQualifier Loose)
+
+abbrev NormalSeconds : List ℕ → XRange × Option (XRange × Qualifier) → Type 0
+NormalSeconds = Followed (IsComponent Normal) (Optional (IsThird Normal))
 
 -- a component alone is a text of the third part
 third_alone : {text middle : List ℕ} {x : XRange} (p : IsLongest (IsComponent Specifier) text x middle) → Thirds (p.front ++ []) (x, record { pre = []; build = [] })
@@ -226,22 +230,24 @@ whole_text : {text middle : List ℕ} {x : XRange} (p : IsLongest (IsComponent S
 whole_text {middle = middle} p = p.text_is ∙ ap (λ t. t ++ middle) (sym (append-nil p.front))
 
 module _ (major minor : XRange) {rest : List ℕ} (w : List ℕ) (past : IsPast w) where
-  third_found : (text : List ℕ) (x : XRange) (q : Qualifier) (after : List ℕ) → IsCutComponent x after text → (o : Option (XRange × Qualifier)) → Longest (Optional (IsThird Specifier)) (46 ∷ text) o rest
+  third_found : (b : ℕ) → IsDot Specifier b → (text : List ℕ) (x : XRange) (q : Qualifier) (after : List ℕ) → IsCutComponent x after text → (o : Option (XRange × Qualifier)) → Longest (Optional (IsThird Specifier)) (b ∷ text) o rest
       → IsCut (partial_of (major, Some (minor, Some (x, q)))) (partial_of (major, Some (minor, o)))
-  third_found text x q after (whole_component p) o h =
-      let d = dot {D = Thirds} o (p.front ++ []) after (x, record { pre = []; build = [] }) (whole_text p) (third_alone p) h in
+  third_found b is text x q after (whole_component p) o h =
+      let d = dot {D = Thirds} b is o (p.front ++ []) after (x, record { pre = []; build = [] }) (whole_text p) (third_alone p) h in
       rw (d.is, third_value d.value d.longest p) all_same
-  third_found text x q after (cut_component {more} p digit) o h =
-      let d = dot {D = Thirds} o (p.front ++ []) more (Val 0, record { pre = []; build = [] }) (whole_text p) (third_alone p) h in
+  third_found b is text x q after (cut_component {more} p digit) o h =
+      let d = dot {D = Thirds} b is o (p.front ++ []) more (Val 0, record { pre = []; build = [] }) (whole_text p) (third_alone p) h in
       rw (d.is, third_value d.value d.longest p) patch_cut
 
   third_cut : (s : List ℕ) (t : Option (XRange × Qualifier)) → Optional (IsThird Normal) s t → (o : Option (XRange × Qualifier)) → Longest (Optional (IsThird Specifier)) (s ++ w) o rest
       → IsCut (partial_of (major, Some (minor, t))) (partial_of (major, Some (minor, o)))
   third_cut s None k o h = rw (no_dot {D = Thirds} o past.no_dot (rw k at h)) all_same
-  third_cut [] (Some v) k o h = absurd k
-  third_cut (b ∷ s) (Some (x, q)) (e, k) o h =
+  third_cut t (Some (x, q)) d o h =
+      let sep = at_dot NormalThirds Normal t (x, q) d in
+      let s = sep.rest in
+      let k = sep.stands in
       let found = component_cut k.first (k.second ++ w) x k.in_first (after_number k.first k.second w k.seam past) in
-      third_found (s ++ w) x q (k.second ++ w) (subst (IsCutComponent x (k.second ++ w)) (sym (ap (λ t. t ++ w) k.text_is ∙ append_assoc k.first k.second w)) found) o (rw e at h)
+      third_found sep.byte (normal_dot Specifier sep.byte sep.is_dot) (s ++ w) x q (k.second ++ w) (subst (IsCutComponent x (k.second ++ w)) (sym (ap (λ t. t ++ w) k.text_is ∙ append_assoc k.first k.second w)) found) o (rw sep.text_is at h)
 
 abbrev Seconds : List ℕ → XRange × Option (XRange × Qualifier) → Type 0
 Seconds = Followed (IsComponent Specifier) (Optional (IsThird Specifier))
@@ -250,58 +256,54 @@ second_alone : {text middle : List ℕ} {x : XRange} (p : IsLongest (IsComponent
 second_alone p = record { first = p.front; second = []; text_is = refl; in_first = p.stands; in_second = refl; seam = tt }
 
 -- no digit follows a component
-after_component : (s w : List ℕ) (t : Option (XRange × Qualifier)) → Optional (IsThird Normal) s t → IsPast w → Stops is_ascii_digit (s ++ w)
-after_component s w None k past = rw k past.no_digit
-after_component [] w (Some v) k past = absurd k
-after_component (b ∷ s) w (Some v) (e, k) past = rw e refl
-
-after_first : (s w : List ℕ) (t : Option (XRange × Option (XRange × Qualifier))) → Optional (IsSecond Normal) s t → IsPast w → Stops is_ascii_digit (s ++ w)
-after_first s w None k past = rw k past.no_digit
-after_first [] w (Some v) k past = absurd k
-after_first (b ∷ s) w (Some v) (e, k) past = rw e refl
+after_component : {V : Type 0} (D : List ℕ → V → Type 0) (s w : List ℕ) (t : Option V) → Optional (IsDotted Normal D) s t → IsPast w → Stops is_ascii_digit (s ++ w)
+after_component D s w None k past = rw k past.no_digit
+after_component D s w (Some v) k past = let sep = at_dot D Normal s v k in rw sep.text_is (false_from_ne_true (is_ascii_digit sep.byte) (dot_no_digit Normal sep.byte sep.is_dot))
 
 minor_found : (major x : XRange) (t : Option (XRange × Qualifier)) → IsCut (partial_of (major, Some (x, t))) (partial_of (major, Some (Val 0, None)))
 minor_found major x None = minor_cut
 minor_found major x (Some v) = minor_cut
 
 module _ (major : XRange) {rest : List ℕ} (w : List ℕ) (past : IsPast w) where
-  second_found : (text : List ℕ) (x : XRange) (t : Option (XRange × Qualifier)) (s : List ℕ) → Optional (IsThird Normal) s t → IsCutComponent x (s ++ w) text
-      → (o : Option (XRange × Option (XRange × Qualifier))) → Longest (Optional (IsSecond Specifier)) (46 ∷ text) o rest → IsCut (partial_of (major, Some (x, t))) (partial_of (major, o))
-  second_found text x t s k (whole_component p) o h =
-      let d = dot {D = Seconds} o (p.front ++ []) (s ++ w) (x, None) (whole_text p) (second_alone p) h in
-      let parts = split (component_dot_apart Specifier) None refl d.value d.longest p in
+  second_found : (b : ℕ) → IsDot Specifier b → (text : List ℕ) (x : XRange) (t : Option (XRange × Qualifier)) (s : List ℕ) → Optional (IsThird Normal) s t → IsCutComponent x (s ++ w) text
+      → (o : Option (XRange × Option (XRange × Qualifier))) → Longest (Optional (IsSecond Specifier)) (b ∷ text) o rest → IsCut (partial_of (major, Some (x, t))) (partial_of (major, o))
+  second_found b is text x t s k (whole_component p) o h =
+      let d = dot {D = Seconds} b is o (p.front ++ []) (s ++ w) (x, None) (whole_text p) (second_alone p) h in
+      let parts = split (component_dot_apart Thirds Specifier) None refl d.value d.longest p in
       let cut = third_cut major x w past s t k d.value.1 parts.second in
       rw d.is (subst (λ y. IsCut (partial_of (major, Some (x, t))) (partial_of (major, Some (y, d.value.1)))) (sym parts.value) cut)
-  second_found text x t s k (cut_component {more} p digit) o h =
-      let d = dot {D = Seconds} o (p.front ++ []) more (Val 0, None) (whole_text p) (second_alone p) h in
-      let parts = split (component_dot_apart Specifier) None refl d.value d.longest p in
+  second_found b is text x t s k (cut_component {more} p digit) o h =
+      let d = dot {D = Seconds} b is o (p.front ++ []) more (Val 0, None) (whole_text p) (second_alone p) h in
+      let parts = split (component_dot_apart Thirds Specifier) None refl d.value d.longest p in
       let none : d.value.1 ≡ None = no_dot {D = Thirds} d.value.1 (digit_no_dot more digit) parts.second in
       rw (d.is, pair_is d.value (Val 0) None parts.value none) (minor_found major x t)
 
   second_cut : (s : List ℕ) (t : Option (XRange × Option (XRange × Qualifier))) → Optional (IsSecond Normal) s t → (o : Option (XRange × Option (XRange × Qualifier))) → Longest (Optional (IsSecond Specifier)) (s ++ w) o rest
       → IsCut (partial_of (major, t)) (partial_of (major, o))
   second_cut s None k o h = rw (no_dot {D = Seconds} o past.no_dot (rw k at h)) all_same
-  second_cut [] (Some v) k o h = absurd k
-  second_cut (b ∷ s) (Some (x, t)) (e, k) o h =
-      let found = component_cut k.first (k.second ++ w) x k.in_first (λ d. after_component k.second w t k.in_second past) in
-      second_found (s ++ w) x t k.second k.in_second (subst (IsCutComponent x (k.second ++ w)) (sym (ap (λ t. t ++ w) k.text_is ∙ append_assoc k.first k.second w)) found) o (rw e at h)
+  second_cut u (Some (x, t)) d o h =
+      let sep = at_dot NormalSeconds Normal u (x, t) d in
+      let s = sep.rest in
+      let k = sep.stands in
+      let found = component_cut k.first (k.second ++ w) x k.in_first (λ d. after_component NormalThirds k.second w t k.in_second past) in
+      second_found sep.byte (normal_dot Specifier sep.byte sep.is_dot) (s ++ w) x t k.second k.in_second (subst (IsCutComponent x (k.second ++ w)) (sym (ap (λ t. t ++ w) k.text_is ∙ append_assoc k.first k.second w)) found) o (rw sep.text_is at h)
 
 -- how the strict grammar parses a partial version that the normalized grammar matches
 module _ (w : List ℕ) (past : IsPast w) {rest : List ℕ} where
   first_found : (text : List ℕ) (x : XRange) (t : Option (XRange × Option (XRange × Qualifier))) (s : List ℕ) → Optional (IsSecond Normal) s t → IsCutComponent x (s ++ w) text
       → (v : XRange × Option (XRange × Option (XRange × Qualifier))) → Longest (Followed (IsComponent Specifier) (Optional (IsSecond Specifier))) text v rest → IsCut (partial_of (x, t)) (partial_of v)
   first_found text x t s k (whole_component p) v h =
-      let parts = split (component_dot_apart Specifier) None refl v h p in
+      let parts = split (component_dot_apart Seconds Specifier) None refl v h p in
       subst (λ y. IsCut (partial_of (x, t)) (partial_of (y, v.1))) (sym parts.value) (second_cut x w past s t k v.1 parts.second)
   first_found text x t s k (cut_component {more} p digit) v h =
-      let parts = split (component_dot_apart Specifier) None refl v h p in
+      let parts = split (component_dot_apart Seconds Specifier) None refl v h p in
       let none : v.1 ≡ None = no_dot {D = Seconds} v.1 (digit_no_dot more digit) parts.second in
       rw (pair_is v (Val 0) None parts.value none) major_cut
 
   pub bare_cut : (text : List ℕ) (p q : Partial) → IsBarePartial Normal text p → IsLongest (IsBarePartial Specifier) (text ++ w) q rest → IsCut p q
   bare_cut text p q m h =
       let k = m.stands in
-      let found = component_cut k.first (k.second ++ w) m.value.0 k.in_first (λ d. after_first k.second w m.value.1 k.in_second past) in
+      let found = component_cut k.first (k.second ++ w) m.value.0 k.in_first (λ d. after_component NormalSeconds k.second w m.value.1 k.in_second past) in
       let same : text ++ w ≡ k.first ++ (k.second ++ w) = ap (λ t. t ++ w) k.text_is ∙ append_assoc k.first k.second w in
       let long : Longest (Followed (IsComponent Specifier) (Optional (IsSecond Specifier))) (text ++ w) h.stands.value rest = record {
         front = h.front;
@@ -332,7 +334,7 @@ pub bare_has_specifier : (text w : List ℕ) (p : Partial) → IsBarePartial Nor
 bare_has_specifier text w p m past =
     let k = m.stands in
     let same : text ++ w ≡ k.first ++ (k.second ++ w) = ap (λ t. t ++ w) k.text_is ∙ append_assoc k.first k.second w in
-    subst HasSpecifier (sym same) (go (component_cut k.first (k.second ++ w) m.value.0 k.in_first (λ d. after_first k.second w m.value.1 k.in_second past)))
+    subst HasSpecifier (sym same) (go (component_cut k.first (k.second ++ w) m.value.0 k.in_first (λ d. after_component NormalSeconds k.second w m.value.1 k.in_second past)))
   where
     go : {x : XRange} {rest text : List ℕ} → IsCutComponent x rest text → HasSpecifier text
     go (whole_component p) = first_alone p

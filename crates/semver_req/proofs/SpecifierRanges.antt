@@ -1,15 +1,13 @@
 -- What the strict parser makes of a text.
-use Rattle.std.proofs.Common.{◌≡◌, ◌<◌, ℕ, Bool, true, false, List, [], ◌∷◌, length, Some, None, Result, Ok, Err, refl, sym, ap, ◌∙◌, arith, inl, inr, ◌==◌, ◌||◌, ◌⊎◌, IfErr, IsErrAnd}
+use Rattle.std.proofs.Common.{◌≡◌, ◌<◌, ℕ, true, false, List, [], ◌∷◌, length, Some, None, Result, Ok, Err, refl, sym, ap, ◌∙◌, arith, inl, inr, ◌⊎◌, IfErr, IsErrAnd}
 use Rattle.std.proofs.lemmas.Bool.{and_from, and_left, and_right}
-use Rattle.std.proofs.lemmas.Bool.Decides.{nat_tests}
 use Rattle.semver_base.specs.Failure.{message_of, rejection_message}
 use Rattle.semver_base.specs.Grammar.{HasNone}
 use Rattle.semver_base.specs.Lexical.{IsWhitespace}
 use Rattle.semver_base.specs.declared.failure.Rejection.{Rejection}
 use Rattle.semver_base.specs.declared.failure.Rejection.TheVariants.{UnexpectedCharacter}
 use Rattle.semver_base.specs.declared.range.VersionRange.{VersionRange}
-use Rattle.semver_base.specs.WhitespaceLaws.{whitespace_made, is_whitespace_byte}
-use Rattle.semver_base.specs.ByteLaws.{BeginsBy, Disjoint, begins_from_made, none_by_byte}
+use Rattle.semver_base.specs.ByteLaws.{none_by_byte}
 use Rattle.semver_req.specs.Outcome.{IsSpecifierOutcome, IsSpecifierRange, IsTagOr, Outcome, Ranges, Rejected, Tag, left_over, no_fit, no_front, no_tag, tag, whole}
 use Rattle.semver_req.specs.Parsers.{Failure, IsReading}
 use Rattle.semver_req.specs.Single.{IsSingle, absent, is_followed, is_range, over_bound, over_number}
@@ -21,29 +19,18 @@ use Rattle.semver_req.specs.declared.range_set_or_tag.RangeSetOrTag.{RangeSetOrT
 use Rattle.semver_req.specs.declared.range_set_or_tag.RangeSetOrTag.TheVariants as inner
 use Rattle.semver_req.proofs.OneOutcome.{some_or_none}
 use Rattle.semver_req.proofs.SpecifierRetained.{specifier_retained}
-use Rattle.semver_req.proofs.GrammarFacts.{comparator_some, comparator_under, is_component_byte}
-use Rattle.semver_req.proofs.RuleFacts.{begins_in}
-use Rattle.semver_req.proofs.Rules.{Bytes, has}
+use Rattle.semver_req.proofs.Grammars as rule
+use Rattle.semver_req.proofs.GrammarFacts.{comparator_some, comparator_under, disjoint, starts, whitespace_under}
+use Rattle.semver_req.proofs.RuleFacts.{begins_first, plain}
+use Rattle.semver_req.proofs.Rules.{Bytes, firsts, steps}
 
 -- ---- whitespace doesn't begin with a range of a specifier
 
-abbrev is_specifier_byte : ℕ → Bool
-is_specifier_byte x = is_component_byte x || ((x == 126) || (x == 94))
-
-abbrev specifier_bytes : Bytes
-specifier_bytes = (42, 43) ∷ ((48, 58) ∷ ((88, 89) ∷ ((94, 95) ∷ ((120, 121) ∷ ((126, 127) ∷ [])))))
-
-specifier_begins : BeginsBy IsSpecifierRange is_specifier_byte
-specifier_begins = begins_in (comparator_under Specifier) is_specifier_byte specifier_bytes pass refl
-  where
-    pass : (x : ℕ) → has specifier_bytes x ≡ true → is_specifier_byte x ≡ true
-    pass x h = grind (arith, nat_tests)
-
-no_whitespace_begins : Disjoint is_whitespace_byte is_specifier_byte
-no_whitespace_begins x h k = grind (arith, nat_tests)
+abbrev whitespace_starts : Bytes
+whitespace_starts = firsts (steps (plain rule.whitespace))
 
 pub no_whitespace_none : (text : List ℕ) → IsWhitespace text tt → HasNone IsSpecifierRange text
-no_whitespace_none text b = none_by_byte (comparator_some Specifier) specifier_begins text (λ x rest e k. no_whitespace_begins x ((begins_from_made whitespace_made).begins x (record { more = rest; value = tt; stands = rw e at b })) k)
+no_whitespace_none text b = none_by_byte (comparator_some Specifier) (begins_first (comparator_under Specifier)) text (λ x rest e k. disjoint (starts Specifier) whitespace_starts refl x k ((begins_first whitespace_under).begins x (record { more = rest; value = tt; stands = rw e at b })))
 
 -- ---- tags
 

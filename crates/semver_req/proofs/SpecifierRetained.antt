@@ -16,6 +16,10 @@ use Rattle.semver_base.specs.declared.range.VersionRange.{VersionRange}
 use Rattle.semver_base.specs.declared.version.Version.{Version}
 use Rattle.semver_req.specs.RetainedSet.{retained_range}
 use Rattle.semver_req.specs.Outcome.{IsSpecifierRange}
+use Rattle.semver_req.specs.Written.{IsNonPrimitive}
+use Rattle.semver_req.specs.declared.common.values.Flavour.{Flavour}
+use Rattle.semver_req.specs.declared.common.values.Flavour.TheVariants.{Specifier}
+use Rattle.semver_req.proofs.GrammarParts.{at_caret, at_operator, at_tilde}
 use Rattle.semver_req.proofs.Folding.{caret_ends, equal_ends, tilde_ends, upper_ends}
 use Rattle.semver_req.proofs.Stabilizing.{below_major, below_minor, below_patch, less_stays, number_below, version_stays}
 
@@ -74,10 +78,9 @@ abbrev pub is_non_primitive : Comparator → Bool
 is_non_primitive (OfPrimitive primitive_kind p) = false
 is_non_primitive c = true
 
-non_primitive : {text : List ℕ} {c : Comparator} → IsSpecifierRange text c → is_non_primitive c ≡ true
-non_primitive (this (this m)) = ap is_non_primitive m.is
-non_primitive (this (that m)) = ap is_non_primitive m.is
-non_primitive (that m) = ap is_non_primitive m.is
+pub kind_non_primitive : (f : Flavour) (text : List ℕ) (c : Comparator) → IsNonPrimitive f text c → is_non_primitive c ≡ true
+kind_non_primitive f text c (this h) = elim (at_operator f text c h) [ at_tilde b e s k is ↦ ap is_non_primitive is | at_caret b e s k is ↦ ap is_non_primitive is ]
+kind_non_primitive f text c (that m) = ap is_non_primitive m.is
 
 pub non_primitive_retained : (c : Comparator) → is_non_primitive c ≡ true → retained_range (c ∷ []) ≡ comparator_range c
 non_primitive_retained (Tilde p) h = tilde_stays p.major p.minor p.patch p.pre p.build
@@ -95,8 +98,8 @@ non_primitive_ends (Hyphen p q) h = upper_ends q q.major q.minor q.patch
 
 -- what is kept of it is its own range
 pub specifier_retained : {text : List ℕ} {c : Comparator} → IsSpecifierRange text c → retained_range (c ∷ []) ≡ comparator_range c
-specifier_retained {c = c} s = non_primitive_retained c (non_primitive s)
+specifier_retained {c = c} s = non_primitive_retained c (kind_non_primitive Specifier _ c s)
 
 -- which doesn't end below 0.0.0
 pub specifier_ends : {text : List ℕ} {c : Comparator} → IsSpecifierRange text c → ends_at_zero (retained_range (c ∷ [])).end ≡ false
-specifier_ends {c = c} s = ap (λ (range : VersionRange). ends_at_zero range.end) (specifier_retained s) ∙ non_primitive_ends c (non_primitive s)
+specifier_ends {c = c} s = ap (λ (range : VersionRange). ends_at_zero range.end) (specifier_retained s) ∙ non_primitive_ends c (kind_non_primitive Specifier _ c s)

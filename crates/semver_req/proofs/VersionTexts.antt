@@ -20,7 +20,7 @@ use Rattle.semver_req.proofs.GrammarTexts.{IsCore, IsSurrounded}
 use Rattle.semver_req.proofs.RuleTexts.{Any, EndsBy}
 use Rattle.semver_req.proofs.ViableParts.{empty_part, starts_text}
 use Rattle.semver_req.proofs.Trimmed.{around, trim_within}
-use Rattle.semver_req.proofs.Partials.{no_whitespace}
+use Rattle.semver_req.proofs.GrammarParts.{no_whitespace}
 
 -- ---- the text of a version without whitespace in front
 

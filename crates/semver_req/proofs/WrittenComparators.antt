@@ -1,10 +1,11 @@
 -- The text of a range: comparators that parse back unchanged in npm's and the normalized grammar.
-use Rattle.std.proofs.Common.{◌≡◌, ◌<◌, ◌^◌, ◌+◌, ℕ, Bool, true, false, List, [], ◌∷◌, ◌++◌, length, Some, None, refl, sym, ap, ◌∙◌, arith, append-nil, length-append, ◌&&◌, codes, if◌then◌else◌, nat_lt, decimal}
+use Rattle.std.proofs.Common.{◌≡◌, ◌<◌, ◌^◌, ◌+◌, ℕ, Bool, true, false, List, [], ◌∷◌, ◌++◌, length, Option, Some, None, refl, sym, ap, ◌∙◌, arith, append-nil, length-append, ◌&&◌, if◌then◌else◌, nat_lt, decimal}
 use Rattle.std.specs.List.{list_all}
 use Rattle.std.proofs.lemmas.Bool.{and_from, and_parts, eqb-true, lt-ltb}
 use Rattle.std.proofs.lemmas.Bool.Decides.{nat_tests}
 use Rattle.semver_base.specs.Comparators.{Caret, Comparator, OfPrimitive, Bare, Tilde, comparator_line, primitive_kind_text}
-use Rattle.semver_base.specs.Grammar.{Followed, Optional, this, that}
+use Rattle.semver_base.specs.Grammar.{Followed, Joined, Optional, this, that}
+use Rattle.semver_base.specs.Lexical.{IsNumberEnd, IsQualifier}
 use Rattle.semver_base.specs.Meaning.{release}
 use Rattle.semver_base.specs.NormalText.{IsWritableBound, IsWritableRange, comparator_text, partial_text}
 use Rattle.semver_base.specs.PartialTable.{Line, all_fit, caret, caret_by, lower_to_below, equal, number_fits, tilde}
@@ -14,6 +15,8 @@ use Rattle.semver_base.specs.VersionText.{IsWritable, prefixed, version_text}
 use Rattle.semver_base.specs.declared.partial.Partial.{Partial}
 use Rattle.semver_base.specs.declared.partial.PrimitiveKind.{PrimitiveKind}
 use Rattle.semver_base.specs.declared.partial.PrimitiveKind.TheVariants.{GreaterThan, LessThan, GreaterThanOrEqual, LessThanOrEqual}
+use Rattle.semver_base.specs.declared.lexical.values.Qualifier.{Qualifier}
+use Rattle.semver_base.specs.declared.partial.XRange.{XRange}
 use Rattle.semver_base.specs.declared.partial.XRange.TheVariants.{Wildcard, Val}
 use Rattle.semver_base.specs.declared.range.RangeBound.{RangeBound}
 use Rattle.semver_base.specs.declared.range.RangeBound.TheVariants as bound
@@ -24,15 +27,16 @@ use Rattle.semver_base.specs.declared.version.Version.{Version}
 use Rattle.semver_base.specs.ByteLaws.{MadeOf, list_all-append}
 use Rattle.semver_base.specs.SolidLaws.{is_solid_byte, some_text}
 use Rattle.semver_base.specs.ShortLaws.{short_is}
-use Rattle.semver_base.specs.WrittenLaws.{after, follow, no_digit_written, number_written, qualifier_written}
-use Rattle.semver_req.specs.Comparators.{IsComparator, IsLed, fits, no_more, numbers}
-use Rattle.semver_req.specs.Partials.{IsComponent, IsPartial, IsBarePartial, IsThird, is_wildcard, strictness_of}
+use Rattle.semver_base.specs.WrittenLaws.{follow, no_digit_written, number_written, qualifier_written}
+use Rattle.semver_req.specs.Comparators.{IsComparator, fits, numbers}
+use Rattle.semver_req.specs.Partials.{IsComponent, IsPartial, IsBarePartial, IsSecond, IsThird, is_wildcard, strictness_of}
+use Rattle.semver_req.specs.Pieces.{npm, normal}
 use Rattle.semver_req.specs.declared.common.values.Flavour.{Flavour}
 use Rattle.semver_req.specs.declared.common.values.Flavour.TheVariants.{Npm, Normal, Specifier}
-use Rattle.semver_req.proofs.Partials.{no_whitespace}
-use Rattle.semver_req.proofs.GrammarFacts.{bare_bytes, bare_partial_under, partial_some}
+use Rattle.semver_req.proofs.GrammarParts.{no_whitespace, non_primitive, dotted_of, plain_caret, plain_dot, plain_tilde, with_caret, with_primitive, with_tilde}
+use Rattle.semver_req.proofs.GrammarFacts.{bare_partial_under, partial_some}
 use Rattle.semver_req.proofs.RuleFacts.{made_in}
-use Rattle.semver_req.proofs.Rules.{has}
+use Rattle.semver_req.proofs.Rules.{Bytes, has}
 
 -- ---- partial versions
 
@@ -65,6 +69,10 @@ star_written = record {
   fit = refl;
 }
 
+-- what follows the first dot
+abbrev BehindDot : Flavour → List ℕ → XRange × Option (XRange × Qualifier) → Type 0
+BehindDot f = Followed (IsComponent f) (Optional (IsThird f))
+
 module _ (v : Version) (h : IsWritable v) where
   major_written : IsWrittenPartial (numbered (Val v.major) Wildcard)
   major_written = record {
@@ -76,30 +84,43 @@ module _ (v : Version) (h : IsWritable v) where
   minor_written = record {
     reads = λ f. record {
       value = (Val v.major, Some (Val v.minor, None));
-      stands = follow _ _ (component_written f v.major h.numbers.major) (refl, alone _ (component_written f v.minor h.numbers.minor));
+      stands = follow _ _ (component_written f v.major h.numbers.major) (dotted_of (BehindDot f) f 46 _ (Val v.minor, None) (plain_dot f) (alone _ (component_written f v.minor h.numbers.minor)));
       is = refl;
     };
     fit = and_from (number_fits v.major) _ (number_small v.major h.numbers.major) (one_small v.minor h.numbers.minor);
   }
 
-  third_written : (f : Flavour) → IsThird f (46 ∷ (decimal v.patch ++ (prefixed 45 v.pre ++ prefixed 43 v.build))) (Val v.patch, record { pre = v.pre; build = v.build })
-  third_written f = (
-    refl,
-    record {
-      first = decimal v.patch;
-      second = prefixed 45 v.pre ++ prefixed 43 v.build;
-      text_is = refl;
-      in_first = component_written f v.patch h.numbers.patch;
-      in_second = qualifier_written (strictness_of f) v.pre v.build h.pre h.build;
-      seam = λ digit. no_digit_written v.pre v.build;
-    },
-  )
+  abbrev behind_patch : List ℕ
+  behind_patch = prefixed 45 v.pre ++ prefixed 43 v.build
+
+  abbrev third : XRange × Qualifier
+  third = (Val v.patch, record { pre = v.pre; build = v.build })
+
+  third_written : (f : Flavour) → IsThird f (46 ∷ (decimal v.patch ++ behind_patch)) third
+  third_written f = dotted_of (Joined IsNumberEnd (IsComponent f) (IsQualifier (strictness_of f))) f 46 (decimal v.patch ++ behind_patch) third (plain_dot f) (record {
+    first = decimal v.patch;
+    second = behind_patch;
+    text_is = refl;
+    in_first = component_written f v.patch h.numbers.patch;
+    in_second = qualifier_written (strictness_of f) v.pre v.build h.pre h.build;
+    seam = λ digit. no_digit_written v.pre v.build;
+  })
+
+  second_written : (f : Flavour) → IsSecond f (46 ∷ (decimal v.minor ++ (46 ∷ (decimal v.patch ++ behind_patch)))) (Val v.minor, Some third)
+  second_written f = dotted_of (BehindDot f) f 46 (decimal v.minor ++ (46 ∷ (decimal v.patch ++ behind_patch))) (Val v.minor, Some third) (plain_dot f) (record {
+    first = decimal v.minor;
+    second = 46 ∷ (decimal v.patch ++ behind_patch);
+    text_is = refl;
+    in_first = component_written f v.minor h.numbers.minor;
+    in_second = third_written f;
+    seam = tt;
+  })
 
   -- the text of a version is a partial version of each grammar
   pub whole_reads : (f : Flavour) → IsBarePartial f (version_text v) (whole v)
   whole_reads f = record {
-    value = (Val v.major, Some (Val v.minor, Some (Val v.patch, record { pre = v.pre; build = v.build })));
-    stands = follow _ _ (component_written f v.major h.numbers.major) (refl, follow _ _ (component_written f v.minor h.numbers.minor) (third_written f));
+    value = (Val v.major, Some (Val v.minor, Some third));
+    stands = follow _ _ (component_written f v.major h.numbers.major) (second_written f);
     is = refl;
   }
 
@@ -111,10 +132,13 @@ module _ (v : Version) (h : IsWritable v) where
 
 -- ---- their bytes
 
+abbrev solid_bytes : Bytes
+solid_bytes = (33, 47) ∷ ((48, 64) ∷ ((65, 124) ∷ ((125, 127) ∷ [])))
+
 partial_made : MadeOf (IsBarePartial Normal) is_solid_byte
-partial_made = made_in (bare_partial_under Normal) is_solid_byte bare_bytes solid refl
+partial_made = made_in (bare_partial_under Normal) is_solid_byte solid_bytes solid refl
   where
-    solid : (x : ℕ) → has bare_bytes x ≡ true → is_solid_byte x ≡ true
+    solid : (x : ℕ) → has solid_bytes x ≡ true → is_solid_byte x ≡ true
     solid x h = grind (arith, nat_tests)
 
 -- ---- comparators
@@ -137,16 +161,13 @@ module _ {p : Partial} (w : IsWrittenPartial p) where
   some_partial : 0 < length (partial_text p)
   some_partial = some_text (partial_some Normal) (partial_text p) (w.reads Normal)
 
-  led : IsLed (partial_text p) p
-  led = after [] _ tt no_more (after [] _ tt no_whitespace (after [] _ None refl (after [] _ tt no_whitespace npm_partial)))
-
   fit_with : (sums : List ℕ) → all_fit sums ≡ true → (all_fit (numbers p) && all_fit sums) ≡ true
   fit_with sums fit = and_from (all_fit (numbers p)) (all_fit sums) w.fit fit
 
   tilde_written : all_fit (tilde p).sums ≡ true → IsWritten (Tilde p)
   tilde_written fit = record {
-    npm = this (this (record { value = p; stands = after [] _ None refl (after (codes "~") _ tt (that refl) led); is = refl }));
-    normal = this (this (record { value = p; stands = (refl, w.reads Normal); is = refl }));
+    npm = non_primitive Npm npm _ (Tilde p) (this (with_tilde Npm 126 _ p (plain_tilde Npm) npm_partial));
+    normal = non_primitive Normal normal _ (Tilde p) (this (with_tilde Normal 126 _ p (plain_tilde Normal) (w.reads Normal)));
     solid = and_from (is_solid_byte 126) _ refl solid_partial;
     some = omega arith;
     fit = fit_with (tilde p).sums fit;
@@ -154,8 +175,8 @@ module _ {p : Partial} (w : IsWrittenPartial p) where
 
   caret_written : all_fit (caret p).sums ≡ true → IsWritten (Caret p)
   caret_written fit = record {
-    npm = this (that (record { value = p; stands = after [] _ None refl (refl, led); is = refl }));
-    normal = this (that (record { value = p; stands = (refl, w.reads Normal); is = refl }));
+    npm = non_primitive Npm npm _ (Caret p) (this (with_caret Npm 94 _ p (plain_caret Npm) npm_partial));
+    normal = non_primitive Normal normal _ (Caret p) (this (with_caret Normal 94 _ p (plain_caret Normal) (w.reads Normal)));
     solid = and_from (is_solid_byte 94) _ refl solid_partial;
     some = omega arith;
     fit = fit_with (caret p).sums fit;
@@ -163,8 +184,8 @@ module _ {p : Partial} (w : IsWrittenPartial p) where
 
   bare_written : all_fit (equal p).sums ≡ true → IsWritten (Bare p)
   bare_written fit = record {
-    npm = that (that (record { value = p; stands = npm_partial; is = refl }));
-    normal = that (that (record { value = p; stands = w.reads Normal; is = refl }));
+    npm = non_primitive Npm npm _ (Bare p) (that (record { value = p; stands = npm_partial; is = refl }));
+    normal = non_primitive Normal normal _ (Bare p) (that (record { value = p; stands = w.reads Normal; is = refl }));
     solid = solid_partial;
     some = some_partial;
     fit = fit_with (equal p).sums fit;
@@ -172,8 +193,8 @@ module _ {p : Partial} (w : IsWrittenPartial p) where
 
   primitive_written : (primitive_kind : PrimitiveKind) → list_all is_solid_byte (primitive_kind_text primitive_kind) ≡ true → all_fit (comparator_line (OfPrimitive primitive_kind p)).sums ≡ true → IsWritten (OfPrimitive primitive_kind p)
   primitive_written primitive_kind solid fit = record {
-    npm = that (this (record { value = (primitive_kind, p); stands = follow (primitive_kind_text primitive_kind) _ refl (after [] _ tt no_whitespace npm_partial); is = refl }));
-    normal = that (this (record { value = (primitive_kind, p); stands = follow (primitive_kind_text primitive_kind) _ refl (after [] _ tt no_whitespace (w.reads Normal)); is = refl }));
+    npm = with_primitive Npm npm primitive_kind [] _ p no_whitespace npm_partial;
+    normal = with_primitive Normal normal primitive_kind [] _ p no_whitespace (w.reads Normal);
     solid = list_all-append is_solid_byte (primitive_kind_text primitive_kind) (partial_text p) solid solid_partial;
     some = omega (arith, some_partial, length-append (primitive_kind_text primitive_kind) (partial_text p));
     fit = fit_with (comparator_line (OfPrimitive primitive_kind p)).sums fit;
