@@ -12,31 +12,26 @@ use Rattle.semver_req.specs.Comparators.{HasOperator, IsComparator, IsLed, IsNpm
 use Rattle.semver_req.specs.Partials.{IsPartial, IsBarePartial}
 use Rattle.semver_req.specs.declared.common.values.Flavour.{Flavour}
 use Rattle.semver_req.specs.declared.common.values.Flavour.TheVariants.{Npm, Normal, Specifier}
-use Rattle.semver_req.proofs.GrammarFacts.{bare_partial_under, equals_under, ignored_under, operators_bare, operators_others, primitive_bare, primitive_kind_apart, tilde_caret, tildes_under, v_under, whitespace_apart, whitespace_under}
-use Rattle.semver_req.proofs.Grammars as rule
+use Rattle.semver_req.proofs.GrammarFacts.{bare_partial_under, bare_starts, equals_under, ignored_under, operators_bare, operators_others, primitive_bare, primitive_kind_apart, tilde_caret, tildes_under, v_under, whitespace_apart, whitespace_under}
 use Rattle.semver_req.proofs.GrammarParts.{AtOperator, IsTildeSign, Wider, at_caret, at_operator, at_tilde, primitive_kind_one, tilde_no_caret}
-use Rattle.semver_req.proofs.RuleFacts.{IsUnder, begins_first, made_without, plain}
-use Rattle.semver_req.proofs.Rules.{Bytes, Rule, all_bytes, firsts, has, overlap, steps}
+use Rattle.semver_req.proofs.RuleFacts.{IsUnder, begins_first, made_without}
+use Rattle.semver_req.proofs.Rules.{Rule, all_bytes, has, overlap}
 use Rattle.semver_req.proofs.PartialReadings.{partial_one, bare_one}
 
 -- ---- the partial version at the end of an npm comparator
 
--- with which bytes a plain one begins
-abbrev core_starts : Bytes
-core_starts = firsts (steps (plain (rule.bare_partial Npm)))
-
--- any others may precede it
+-- any bytes but those with which a plain one begins may precede it
 abbrev is_lead_byte : ℕ → Bool
-is_lead_byte x = not (has core_starts x)
+is_lead_byte x = not (has (bare_starts Npm) x)
 
 abbrev IsCore : List ℕ → Partial → Type 0
 IsCore = After (EachByte is_lead_byte) (IsBarePartial Npm)
 
-lead_no_core : Disjoint is_lead_byte (has core_starts)
-lead_no_core x h k = both_ways (not (has core_starts x)) (not_from_true (has core_starts x) k) h
+lead_no_core : Disjoint is_lead_byte (has (bare_starts Npm))
+lead_no_core x h k = both_ways (not (has (bare_starts Npm) x)) (not_from_true (has (bare_starts Npm) x) k) h
 
 lead_apart : Apart (EachByte is_lead_byte) (IsBarePartial Npm)
-lead_apart = apart_by is_lead_byte (has core_starts) lead_no_core (goes_from_made (each_made is_lead_byte)) (begins_first (bare_partial_under Npm))
+lead_apart = apart_by is_lead_byte (has (bare_starts Npm)) lead_no_core (goes_from_made (each_made is_lead_byte)) (begins_first (bare_partial_under Npm))
 
 -- a text of B is leading bytes and then a plain partial version, with the value that B gives it
 abbrev HasCore : (List ℕ → Partial → Type 0) → Type 0
@@ -83,8 +78,8 @@ either_core : {A B : List ℕ → Partial → Type 0} → HasCore A → HasCore 
 either_core a b text p (this h) = a text p h
 either_core a b text p (that h) = b text p h
 
-leads : {V : Type 0} {A : List ℕ → V → Type 0} {r : Rule} → IsUnder A r → overlap (all_bytes r) core_starts ≡ false → MadeOf A is_lead_byte
-leads u e = made_without u core_starts e
+leads : {V : Type 0} {A : List ℕ → V → Type 0} {r : Rule} → IsUnder A r → overlap (all_bytes r) (bare_starts Npm) ≡ false → MadeOf A is_lead_byte
+leads u e = made_without u (bare_starts Npm) e
 
 led_core : HasCore IsLed
 led_core = after_core (leads equals_under refl) (after_core (leads whitespace_under refl) (after_core (leads v_under refl) (after_core (leads whitespace_under refl) (either_core (prefixed_core 118 refl bare_core) bare_core))))

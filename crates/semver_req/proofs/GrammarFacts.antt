@@ -7,10 +7,10 @@ use Rattle.std.proofs.lemmas.Bool.Decides.{nat_tests}
 use Rattle.semver_base.specs.Comparators.{Bare, Caret, Comparator, Hyphen, OfPrimitive, Tilde}
 use Rattle.semver_base.specs.Grammar.{After, Either, that, Listed, Optional, Prefixed}
 use Rattle.semver_base.specs.GrammarLaws.{Apart, NonEmpty}
-use Rattle.semver_base.specs.ByteLaws.{BeginsBy, Disjoint, GoesBy, MadeOf, begins_from_made, goes_from_made}
+use Rattle.semver_base.specs.ByteLaws.{BeginsBy, Disjoint, GoesBy, MadeOf, goes_from_made}
 use Rattle.semver_base.specs.Lexical.{IsByte, IsSomeWhitespace, IsWhitespace}
 use Rattle.semver_base.specs.ListLaws.{IsListing}
-use Rattle.semver_base.specs.ValueLaws.{Never, all_second}
+use Rattle.semver_base.specs.ValueLaws.{Never, all_second, never_by}
 use Rattle.semver_base.specs.declared.lexical.values.Strictness.TheVariants.{Loose}
 use Rattle.semver_base.specs.declared.partial.Partial.{Partial}
 use Rattle.semver_base.specs.declared.partial.XRange.{XRange}
@@ -29,6 +29,10 @@ use Rattle.semver_req.proofs.RuleTexts.{Any, Describes, Each, after_described, b
 use Rattle.semver_req.proofs.Rules.{Bytes, Rule, all_bytes, alt, byte, firsts, has, Holds, is_void, letter, many, Many, minus, no_more, nullable, one_more, optional, overlap, seq, steps}
 use Rattle.semver_req.proofs.States.{failing}
 use Rattle.semver_req.proofs.WhitespaceTexts.{some_whitespace_described, whitespace_described}
+
+-- no byte is in both
+pub disjoint : (s t : Bytes) → overlap s t ≡ false → Disjoint (has s) (has t)
+disjoint s t e x h k = both_ways (overlap s t) e (overlap_there s t x h k)
 
 -- what is so for each of the three grammars
 flavours : (P : Flavour → Type 0) → P Npm → P Normal → P Specifier → (f : Flavour) → P f
@@ -198,9 +202,16 @@ partial_passes x h = grind (arith, nat_tests)
 pub any_begins : (f : Flavour) → BeginsBy (IsPartial f) is_partial_byte
 any_begins f = begins_in (partial_under f) is_partial_byte partial_bytes partial_passes (flavours (λ f. is_void (minus (firsts (steps (plain (rule.partial f)))) partial_bytes) ≡ true) refl refl refl f)
 
+-- with which bytes they begin
+abbrev pub bare_starts : Flavour → Bytes
+bare_starts f = firsts (steps (plain (rule.bare_partial f)))
+
+abbrev v_starts : Bytes
+v_starts = firsts (steps (plain (seq (letter 118) (rule.bare_partial Npm))))
+
 -- a text with a `v` in front isn't one without
 pub v_bare : Never (Prefixed 118 (IsBarePartial Npm)) (IsBarePartial Npm)
-v_bare = never_both v_bare_under (bare_partial_under Npm) refl
+v_bare = never_by (has v_starts) (has (bare_starts Npm)) (disjoint v_starts (bare_starts Npm) refl) (some_by v_bare_under refl) (begins_first v_bare_under) (begins_first (bare_partial_under Npm))
 
 -- ---- comparison operators
 
@@ -272,20 +283,20 @@ starts f = firsts (steps (plain (rule.comparator f)))
 abbrev between : Flavour → Bytes
 between f = all_bytes (plain (rule.separator f))
 
--- no byte is in both
-pub disjoint : (s t : Bytes) → overlap s t ≡ false → Disjoint (has s) (has t)
-disjoint s t e x h k = both_ways (overlap s t) e (overlap_there s t x h k)
+-- those with which separators begin
+abbrev separating : Flavour → Bytes
+separating f = firsts (steps (plain (rule.separator f)))
 
--- the lists of each grammar: no comparator goes on with a byte of a separator
-pub listing : (f : Flavour) → IsListing (IsComparator f) (IsSeparator f) (has (starts f)) (λ x. not (has (between f) x)) (has (between f)) (has (between f))
+-- the lists of each grammar: no comparator goes on as a separator begins
+pub listing : (f : Flavour) → IsListing (IsComparator f) (IsSeparator f) (has (starts f)) (λ x. not (has (separating f) x)) (has (separating f)) (has (between f))
 listing f = record {
   item_some = comparator_some f;
   separator_some = some_by (separators_under f) (flavours (λ f. nullable (plain (rule.separator f)) ≡ false) refl refl refl f);
   item_begins = begins_first (comparator_under f);
-  item_goes = goes_without (comparator_under f) (between f) (flavours (λ f. failing (is_apart (between f)) (plain (rule.comparator f)) ≡ []) refl refl refl f);
-  separator_begins = begins_from_made (made_of_all (separators_under f));
+  item_goes = goes_without (comparator_under f) (separating f) (flavours (λ f. failing (is_apart (separating f)) (plain (rule.comparator f)) ≡ []) refl refl refl f);
+  separator_begins = begins_first (separators_under f);
   separator_goes = goes_from_made (made_of_all (separators_under f));
-  after_item = λ x h k. both_ways (not (has (between f) x)) (not_from_true (has (between f) x) k) h;
+  after_item = λ x h k. both_ways (not (has (separating f) x)) (not_from_true (has (separating f) x) k) h;
   after_separator = disjoint (between f) (starts f) (flavours (λ f. overlap (between f) (starts f) ≡ false) refl refl refl f);
 }
 

@@ -103,8 +103,8 @@ pub numbers_seen : (f : Flavour) {text rest end : List ℕ} {m n p : ℕ} {q : Q
 numbers_seen f t qualifier = three_read f (number_seen f t.major) (plain_dot f) refl (number_seen f t.minor) (plain_dot f) refl (number_seen f t.patch) qualifier
 
 -- nothing continues with a dot
-nothing_more : {V : Type 0} {A : List ℕ → V → Type 0} (f : Flavour) → HasNone (IsDotted f A) []
-nothing_more {A = A} f = record { none = λ a b w e h. cc (e ∙ ap (λ t. t ++ b) (at_dot A f a w h).text_is) }
+nothing_more : {V : Type 0} (A : List ℕ → V → Type 0) (f : Flavour) → HasNone (IsDotted f A) []
+nothing_more A f = record { none = λ a b w e h. cc (e ∙ ap (λ t. t ++ b) (at_dot A f a w h).text_is) }
 
 -- a wildcard
 wild_seen : (f : Flavour) (b : ℕ) (rest : List ℕ) → is_wildcard f b ≡ true → IsSeen sized_component (IsComponent f) (b ∷ rest) (Fits Wildcard) rest
@@ -124,10 +124,10 @@ two_behind more rest first second is = rw (first.text_is, second.text_is, nothin
 
 -- numbers, and wildcards behind them
 front_seen : (f : Flavour) {text rest : List ℕ} (n : ShortNumbers) → IsShortFront text n rest → AreWildcards f n rest → IsSeen sized_partial (IsBarePartial f) text (Fits (of_short n)) []
-front_seen f (short_numbers.One m) p no_wildcard = one_read f (number_seen f p) (nothing_more f)
-front_seen f (short_numbers.Two m n) p no_wildcard = two_read f (number_seen f p.major) (plain_dot f) refl (number_seen f p.minor) (nothing_more f)
+front_seen f (short_numbers.One m) p no_wildcard = one_read f (number_seen f p) (nothing_more _ f)
+front_seen f (short_numbers.Two m n) p no_wildcard = two_read f (number_seen f p.major) (plain_dot f) refl (number_seen f p.minor) (nothing_more _ f)
 front_seen f (short_numbers.Three n) t no_wildcard = numbers_seen f t (no_qualifier (strictness_of f))
-front_seen f (short_numbers.One m) p (one_wildcard b fewer wild) = two_read f (number_seen f p) (plain_dot f) refl (wild_seen f b [] wild) (nothing_more f)
+front_seen f (short_numbers.One m) p (one_wildcard b fewer wild) = two_read f (number_seen f p) (plain_dot f) refl (wild_seen f b [] wild) (nothing_more _ f)
 front_seen f (short_numbers.Two m n) p (one_wildcard b fewer wild) = three_read f (number_seen f p.major) (plain_dot f) refl (number_seen f p.minor) (plain_dot f) refl (wild_seen f b [] wild) (no_qualifier (strictness_of f))
 front_seen f (short_numbers.Three n) t (one_wildcard b fewer wild) = absurd fewer
 front_seen f (short_numbers.One m) p (two_wildcards b c wild last) =

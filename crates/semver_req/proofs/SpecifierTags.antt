@@ -20,7 +20,7 @@ use Rattle.semver_req.specs.declared.common.values.Flavour.TheVariants.{Normal, 
 use Rattle.semver_req.proofs.PrimitiveKindsNoTag.{are_tag_characters, caret_no_tag, kind_no_tag}
 use Rattle.semver_req.proofs.SpecifierFits.{bare_fits, tilde_fits}
 use Rattle.semver_req.proofs.SpecifierFronts.{IsPast, bare_cut, bare_has_specifier}
-use Rattle.semver_req.proofs.GrammarFacts.{bare_partial_under, comparator_some, disjoint, operators_under, partial_some, primitive_kind_begins, primitive_kind_some}
+use Rattle.semver_req.proofs.GrammarFacts.{bare_partial_under, bare_starts, comparator_some, disjoint, operators_under, partial_some, primitive_kind_begins, primitive_kind_some}
 use Rattle.semver_req.proofs.GrammarParts.{AtOperator, IsCaretSign, IsTildeSign, at_caret, at_operator, at_tilde, dot_no_whitespace, normal_tilde, tilde_no_caret, with_tilde}
 use Rattle.semver_req.proofs.Grammars as rule
 use Rattle.semver_req.proofs.RuleFacts.{begins_first, plain}
@@ -76,18 +76,15 @@ tilde_longest x sign {after = after} q front h f is k = record {
 abbrev signs : Bytes
 signs = firsts (steps (plain (alt (rule.tilde Specifier) (rule.caret Specifier))))
 
-abbrev core : Flavour → Bytes
-core f = firsts (steps (plain (rule.bare_partial f)))
-
 sign_of : (x : ℕ) (rest : List ℕ) (c : Comparator) → HasOperator Specifier (x ∷ rest) c → has signs x ≡ true
 sign_of x rest c h = (begins_first (operators_under Specifier)).begins x (record { more = rest; value = c; stands = h })
 
-core_of : (f : Flavour) (x : ℕ) (rest : List ℕ) (p : Partial) → IsBarePartial f (x ∷ rest) p → has (core f) x ≡ true
+core_of : (f : Flavour) (x : ℕ) (rest : List ℕ) (p : Partial) → IsBarePartial f (x ∷ rest) p → has (bare_starts f) x ≡ true
 core_of f x rest p h = (begins_first (bare_partial_under f)).begins x (record { more = rest; value = p; stands = h })
 
 no_operator : (text : List ℕ) (p : Partial) → IsBarePartial Normal text p → (rest more : List ℕ) (x : ℕ) → text ++ rest ≡ x ∷ more → has signs x ≡ true → ⊥
 no_operator [] p h rest more x e sign = (partial_some Normal).some p h
-no_operator (y ∷ text) p h rest more x e sign = let byte : y ≡ x = cc e in disjoint signs (core Normal) refl x sign (rw byte at (core_of Normal y text p h))
+no_operator (y ∷ text) p h rest more x e sign = let byte : y ≡ x = cc e in disjoint signs (bare_starts Normal) refl x sign (rw byte at (core_of Normal y text p h))
 
 -- ---- such a text isn't a tag of the strict parser
 
@@ -122,7 +119,7 @@ no_tilde x sign text rest after p c m past fit h misfit = go h.front refl h.stan
     go (b ∷ front) f (this k) = led (at_operator Specifier h.front c (rw f k))
     go (b ∷ front) f (that k) =
         let signed = sign_of x (b ∷ front) (Tilde k.value) (with_tilde Specifier x (b ∷ front) k.value sign k.stands) in
-        disjoint signs (core Specifier) refl x signed (subst (λ y. has (core Specifier) y ≡ true) (sym (operator b front f)) (core_of Specifier b front k.value k.stands))
+        disjoint signs (bare_starts Specifier) refl x signed (subst (λ y. has (bare_starts Specifier) y ≡ true) (sym (operator b front f)) (core_of Specifier b front k.value k.stands))
 
 -- a text that begins with a normalized comparator that fits, and not with a comparison operator, has an outcome other than a
 -- tag
