@@ -70,7 +70,7 @@ pub free_list : (cs : List Comparator) → Each (InComparator Free) cs
 free_list [] = tt
 free_list (c ∷ cs) = (free_comparator c, free_list cs)
 
-kind_under : IsUnder IsPrimitiveKind (plain rule.kind)
+pub kind_under : IsUnder IsPrimitiveKind (plain rule.kind)
 kind_under = under (λ t h. absurd h) (kind_described {T = none}) (λ v. tt)
 
 pub ignored_under : IsUnder IsIgnored (plain rule.ignored)

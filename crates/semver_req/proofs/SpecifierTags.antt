@@ -17,10 +17,10 @@ use Rattle.semver_req.specs.Partials.{IsBarePartial}
 use Rattle.semver_req.specs.Tag.{is_valid_tag}
 use Rattle.semver_req.specs.declared.common.values.Flavour.{Flavour}
 use Rattle.semver_req.specs.declared.common.values.Flavour.TheVariants.{Normal, Specifier}
-use Rattle.semver_req.proofs.PrimitiveKindsNoTag.{are_tag_characters, caret_no_tag, kind_no_tag}
+use Rattle.semver_req.proofs.PrimitiveKindsNoTag.{are_tag_characters, caret_no_tag, kind_no_tag, sign_no_tag}
 use Rattle.semver_req.proofs.SpecifierFits.{bare_fits, tilde_fits}
 use Rattle.semver_req.proofs.SpecifierFronts.{IsPast, bare_cut, bare_has_specifier}
-use Rattle.semver_req.proofs.GrammarFacts.{bare_partial_under, bare_starts, comparator_some, disjoint, operators_under, partial_some, primitive_kind_begins, primitive_kind_some}
+use Rattle.semver_req.proofs.GrammarFacts.{bare_partial_under, bare_starts, comparator_some, disjoint, operators_under, partial_some, primitive_kind_some}
 use Rattle.semver_req.proofs.GrammarParts.{AtOperator, IsCaretSign, IsTildeSign, at_caret, at_operator, at_tilde, dot_no_whitespace, normal_tilde, tilde_no_caret, with_tilde}
 use Rattle.semver_req.proofs.Grammars as rule
 use Rattle.semver_req.proofs.RuleFacts.{begins_first, plain}
@@ -134,7 +134,7 @@ comparator_no_tag text c t b fit characters o = go b.stands
 
     primitive : (kind : PrimitiveKind) (s more : List ℕ) → IsPrimitiveKind s kind → b.first ≡ s ++ more → ⊥
     primitive kind [] more h e = primitive_kind_some.some kind h
-    primitive kind (x ∷ s) more h e = no_tag x (s ++ more) e (kind_no_tag x (primitive_kind_begins.begins x (record { more = s; value = kind; stands = h })))
+    primitive kind (x ∷ s) more h e = no_tag x (s ++ more) e (sign_no_tag x (kind_no_tag.begins x (record { more = s; value = kind; stands = h })))
 
     plain_one : (p : Partial) → IsBarePartial Normal b.first p → fits (Bare p) ≡ true → IsSpecifierOutcome text (Tag t) → ⊥
     plain_one p m f (no_front n k) = let s = bare_has_specifier b.first b.rest p m b.past in n.none s.front s.rest (Bare s.value) (b.text_is ∙ s.text_is) (that (record { value = s.value; stands = s.stands; is = refl }))
@@ -148,7 +148,7 @@ comparator_no_tag text c t b fit characters o = go b.stands
 
     led : AtOperator Normal b.first c → ⊥
     led (at_tilde x {rest = more} {p} e s k is) = tilde x (normal_tilde Specifier x s) more p e k (sym (ap fits is) ∙ fit) o
-    led (at_caret x {rest = more} e s k is) = no_tag x more e (caret_no_tag x s)
+    led (at_caret x {rest = more} e s k is) = no_tag x more e (sign_no_tag x (caret_no_tag x s))
 
     go : IsComparator Normal b.first c → ⊥
     go (this k) = led (at_operator Normal b.first c k)
