@@ -11,6 +11,7 @@ use Rattle.semver_base.specs.declared.failure.Rejection.{Rejection}
 use Rattle.semver_base.specs.declared.failure.Rejection.TheVariants.{UnexpectedCharacter}
 use Rattle.semver_base.specs.declared.version.Version.{Version}
 use Rattle.deno_semver.specs.Cuts.{is_not}
+use Rattle.deno_semver.specs.Parsed.{IsParsed}
 use Rattle.deno_semver.specs.declared.package.values.PackageNv.{PackageNv}
 use Rattle.deno_semver.specs.declared.package.name_version.PackageNvParseError.{PackageNvParseError}
 
@@ -84,6 +85,10 @@ IsNvRejection text e = IsNvMemory e ⊎ ((fault : Rejection) × IsNvOutcome text
 abbrev pub IsNvAnswer : List ℕ → Result PackageNv Rejection → Result PackageNv PackageNvParseError → Type 0
 IsNvAnswer text (Ok nv) result = MatchResult result (λ answer. answer ≡ nv) IsNvMemory
 IsNvAnswer text (Err fault) result = IsErrAnd result (λ e. IsNvMemory e ⊎ ReportsNvFault fault text e)
+
+-- what the parser of names with versions returns
+abbrev pub IsParsedNv : List ℕ → Result PackageNv PackageNvParseError → Type 0
+IsParsedNv text = IsParsed (IsNvOutcome text) (IsNvRejection text) (IsNvAnswer text)
 
 -- the text of a name and version parses to it
 abbrev pub NvReadsBack : PackageNv → Type 0

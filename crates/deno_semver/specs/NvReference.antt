@@ -6,6 +6,7 @@ use Rattle.semver_base.specs.declared.failure.Rejection.{Rejection}
 use Rattle.semver_base.specs.declared.failure.Rejection.TheVariants.{UnexpectedCharacter}
 use Rattle.deno_semver.specs.Kind.{scheme_of}
 use Rattle.deno_semver.specs.NameAndVersion.{IsNvFront, IsNvMemory, ReportsNvFault, nv_text}
+use Rattle.deno_semver.specs.Parsed.{IsParsed}
 use Rattle.deno_semver.specs.PackageText.{without_slash}
 use Rattle.deno_semver.specs.ReferenceText.{LacksScheme, path_text}
 use Rattle.deno_semver.specs.declared.package.values.PackageKind.{PackageKind}
@@ -55,6 +56,11 @@ IsNvReferenceAnswer text (Ok reference) result =
     MatchResult result (λ answer. answer ≡ reference) (λ e. IsNvMemory (nv_error e))
 IsNvReferenceAnswer text (Err fault) result =
     IsErrAnd result (λ e. IsNvMemory (nv_error e) ⊎ ReportsNvFault fault text (nv_error e))
+
+-- what the parser of references to versions returns
+abbrev pub IsParsedNvReference : PackageKind → List ℕ → Result PackageNvReference PackageNvReferenceParseError → Type 0
+IsParsedNvReference kind text =
+    IsParsed (IsNvReferenceOutcome kind text) (IsNvReferenceRejection kind text) (IsNvReferenceAnswer text)
 
 -- after the scheme, the text of a reference parses to it, if its name doesn't begin with `/`
 abbrev pub NvReferenceReadsBack : PackageKind → PackageNvReference → Type 0

@@ -6,6 +6,7 @@ use Rattle.semver_base.specs.Characters.{at_sign, slash}
 use Rattle.semver_req.specs.declared.common.values.Flavour.TheVariants.{Specifier}
 use Rattle.deno_semver.specs.Cuts.{is_not}
 use Rattle.deno_semver.specs.Kind.{scheme_of}
+use Rattle.deno_semver.specs.Parsed.{IsParsed}
 use Rattle.deno_semver.specs.PackageOutcome.{PackageFault, HasPath, IsFirstPackageFault, IsVersionReq, Reports}
 use Rattle.deno_semver.specs.PackageText.{IsPackageText, PackageParts, scoped_name}
 use Rattle.deno_semver.specs.ReferenceText.{LacksScheme, reference_text, sub_path_of, text_with_version}
@@ -100,6 +101,10 @@ IsReferenceAnswer kind text (Ok reference) result =
     MatchResult result (λ answer. answer ≡ reference) (λ e. unboxed e ≡ Memory)
 IsReferenceAnswer kind text (Err fault) result =
     IsErrAnd result (λ e. (unboxed e ≡ Memory) ⊎ ReportsReference kind text fault e)
+
+-- what the parser of references returns
+abbrev pub IsParsedReference : PackageKind → List ℕ → Result PackageReqReference PackageReqReferenceParseError → Type 0
+IsParsedReference kind text = IsParsed (IsReferenceOutcome kind text) (IsReferenceRejection kind text) (IsReferenceAnswer kind text)
 
 -- ---- parsing the text back
 

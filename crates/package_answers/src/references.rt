@@ -3,7 +3,7 @@
 ghost use Rattle.std.specs.Prelude.{◌≡◌, ◌⊎◌, IfErr, IfOk, List, None, Ok, Result, string_bytes, ℕ};
 ghost use Rattle.std.specs.Option.{option_copied};
 ghost use Rattle.serde_json.specs.View.{view};
-ghost use Rattle.deno_semver.specs.ReferenceOutcome.{IsReferenceAnswer, IsReferenceOutcome, IsReferenceRejection, ReferenceFault, unboxed};
+ghost use Rattle.deno_semver.specs.ReferenceOutcome.{IsParsedReference, IsReferenceOutcome, IsReferenceRejection, unboxed};
 ghost use Rattle.deno_semver.specs.declared.package.reference.PackageReqReference.{PackageReqReference};
 ghost use Rattle.answers.specs.Asking.{IsAnswer};
 ghost use Rattle.answers.specs.Object.{text_or_null};
@@ -107,11 +107,7 @@ pub(crate) fn parse(
     kind: PackageKind,
     text: &str,
 ) -> Result<PackageReqReference, PackageReqReferenceParseError>
-    ensures read { IfOk result (λ r. IsReferenceOutcome kind text.now (Ok r)) }
-    ensures rejected { IfErr result (IsReferenceRejection kind text.now) }
-    ensures answer { (outcome : Result PackageReqReference ReferenceFault)
-        → IsReferenceOutcome kind text.now outcome
-        → IsReferenceAnswer kind text.now outcome result }
+    ensures { IsParsedReference kind text.now result }
 {
     match kind {
         PackageKind::Jsr => match JsrPackageReqReference::from_str(alloc, text) {

@@ -4,7 +4,7 @@
 ghost use Rattle.std.specs.Prelude.{◌≡◌, IfErr, IfOk, Ok, Result, string_bytes};
 ghost use Rattle.std.specs.Option.{option_copied};
 ghost use Rattle.semver_base.specs.declared.failure.Rejection.{Rejection};
-ghost use Rattle.deno_semver.specs.NvReference.{IsNvReferenceAnswer, IsNvReferenceOutcome, IsNvReferenceRejection};
+ghost use Rattle.deno_semver.specs.NvReference.{IsParsedNvReference};
 ghost use Rattle.deno_semver.specs.declared.package.nv_reference.PackageNvReference.{PackageNvReference};
 ghost use Rattle.answers.specs.Asking.{IsAnswer};
 ghost use Rattle.package_answers.specs.Specifiers.{DependencyParts, VersionReferenceParts};
@@ -83,11 +83,7 @@ fn parse_reference(
     kind: PackageKind,
     text: &str,
 ) -> Result<PackageNvReference, PackageNvReferenceParseError>
-    ensures read { IfOk result (λ r. IsNvReferenceOutcome kind text.now (Ok r)) }
-    ensures rejected { IfErr result (IsNvReferenceRejection kind text.now) }
-    ensures answer { (outcome : Result PackageNvReference Rejection)
-        → IsNvReferenceOutcome kind text.now outcome
-        → IsNvReferenceAnswer text.now outcome result }
+    ensures { IsParsedNvReference kind text.now result }
 {
     match kind {
         PackageKind::Jsr => match JsrPackageNvReference::from_str(alloc, text) {

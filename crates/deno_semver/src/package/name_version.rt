@@ -8,7 +8,7 @@ ghost use Rattle.semver_base.specs.declared.failure.Rejection.TheVariants.{Unexp
 ghost use Rattle.semver_req.specs.Parsers.{IsReadOrTag};
 ghost use Rattle.semver_req.specs.Requirement.{PinsTo, pinned, ranges_of};
 ghost use Rattle.semver_req.specs.Rereading.{IsStableSet, OfReadVersion};
-ghost use Rattle.deno_semver.specs.NameAndVersion.{IsNoNvText, IsNvAnswer, IsNvFront, IsNvMemory, IsNvOutcome, IsNvRejection, IsNvText, NvReadsBack, ReportsNvFault, is_version_byte};
+ghost use Rattle.deno_semver.specs.NameAndVersion.{IsNoNvText, IsNvFront, IsNvMemory, IsNvText, IsParsedNv, NvReadsBack, ReportsNvFault, is_version_byte};
 ghost use Rattle.deno_semver.specs.NameAndVersionSteps.{IsFrontAnswer, IsFrontRejection};
 ghost use Rattle.deno_semver.specs.declared.package.values.PackageNv.{PackageNv};
 
@@ -172,11 +172,8 @@ impl PackageNv {
     /// message of its parse error; anything else that is wrong, such as text after the version, fails with "Unexpected
     /// character.". Otherwise fails only out of memory.
     pub fn from_str(alloc: Global, text: &str) -> Result<Self, PackageNvParseError>
-        ensures read { IfOk result (λ nv. IsNvOutcome text.now (Ok nv)) }
+        ensures parsed { IsParsedNv text.now result }
         ensures reads_back { IfOk result NvReadsBack }
-        ensures rejected { IfErr result (IsNvRejection text.now) }
-        ensures answer { (outcome : Result PackageNv Rejection) → IsNvOutcome text.now outcome
-            → IsNvAnswer text.now outcome result }
     {
         let (nv, rest) = match nv_at_front(alloc, text, text) {
             Ok(front) => front,

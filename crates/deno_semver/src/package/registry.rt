@@ -3,8 +3,8 @@
 ghost use Rattle.std.specs.Prelude.{◌≡◌, IfErr, IfOk, Ok, Result, Some, refl};
 ghost use Rattle.std.specs.Option.{option_copied};
 ghost use Rattle.semver_base.specs.declared.failure.Rejection.{Rejection};
-ghost use Rattle.deno_semver.specs.NvReference.{IsNvReferenceAnswer, IsNvReferenceOutcome, IsNvReferenceRejection, NvReferenceReadsBack, nv_reference_text};
-ghost use Rattle.deno_semver.specs.ReferenceOutcome.{IsReferenceAnswer, IsReferenceOutcome, IsReferenceRejection, ReferenceFault, ReferenceReadsBack};
+ghost use Rattle.deno_semver.specs.NvReference.{IsParsedNvReference, NvReferenceReadsBack, nv_reference_text};
+ghost use Rattle.deno_semver.specs.ReferenceOutcome.{IsParsedReference, ReferenceReadsBack};
 ghost use Rattle.deno_semver.specs.ReferenceText.{reference_text, with_scheme};
 ghost use Rattle.deno_semver.specs.Specifier.{IsSpecifier, specifier_text};
 ghost use Rattle.url.specs.Parts.{serialize};
@@ -82,12 +82,8 @@ impl<R: Registry> RegistryReqReference<R> {
     /// any version is meant, as by `*`, and the path contains an `@`, with the text without its scheme and a suggestion that
     /// moves the part from the last `@` on after the name. Otherwise fails only out of memory.
     pub fn from_str(alloc: Global, specifier: &str) -> Result<Self, PackageReqReferenceParseError>
-        ensures read { IfOk result (λ r. IsReferenceOutcome R.kind specifier.now (Ok r)) }
+        ensures parsed { IsParsedReference R.kind specifier.now result }
         ensures reads_back { IfOk result (ReferenceReadsBack R.kind) }
-        ensures rejected { IfErr result (IsReferenceRejection R.kind specifier.now) }
-        ensures answer { (outcome : Result PackageReqReference ReferenceFault)
-            → IsReferenceOutcome R.kind specifier.now outcome
-            → IsReferenceAnswer R.kind specifier.now outcome result }
     {
         texts_have_one_outcome();
         star_is_any_version();
@@ -132,13 +128,8 @@ impl<R: Registry> RegistryReqReference<R> {
         alloc: Global,
         specifier: &Url,
     ) -> Result<Self, PackageReqReferenceParseError>
-        ensures read { IfOk result
-            (λ r. IsReferenceOutcome R.kind (serialize specifier.now) (Ok r)) }
+        ensures parsed { IsParsedReference R.kind (serialize specifier.now) result }
         ensures reads_back { IfOk result (ReferenceReadsBack R.kind) }
-        ensures rejected { IfErr result (IsReferenceRejection R.kind (serialize specifier.now)) }
-        ensures answer { (outcome : Result PackageReqReference ReferenceFault)
-            → IsReferenceOutcome R.kind (serialize specifier.now) outcome
-            → IsReferenceAnswer R.kind (serialize specifier.now) outcome result }
     {
         RegistryReqReference::from_str(alloc, specifier.as_str())
     }
@@ -232,12 +223,8 @@ impl<R: Registry> RegistryNvReference<R> {
     /// fails with the message of its parse error; anything else that is wrong, such as another scheme, fails with "Unexpected
     /// character.". Otherwise fails only out of memory.
     pub fn from_str(alloc: Global, nv: &str) -> Result<Self, PackageNvReferenceParseError>
-        ensures read { IfOk result (λ r. IsNvReferenceOutcome R.kind nv.now (Ok r)) }
+        ensures parsed { IsParsedNvReference R.kind nv.now result }
         ensures reads_back { IfOk result (NvReferenceReadsBack R.kind) }
-        ensures rejected { IfErr result (IsNvReferenceRejection R.kind nv.now) }
-        ensures answer { (outcome : Result PackageNvReference Rejection)
-            → IsNvReferenceOutcome R.kind nv.now outcome
-            → IsNvReferenceAnswer nv.now outcome result }
     {
         let kind = R::kind();
         let Some(body) = kind.after_scheme(nv) else {
@@ -274,13 +261,8 @@ impl<R: Registry> RegistryNvReference<R> {
         alloc: Global,
         specifier: &Url,
     ) -> Result<Self, PackageNvReferenceParseError>
-        ensures read { IfOk result
-            (λ r. IsNvReferenceOutcome R.kind (serialize specifier.now) (Ok r)) }
+        ensures parsed { IsParsedNvReference R.kind (serialize specifier.now) result }
         ensures reads_back { IfOk result (NvReferenceReadsBack R.kind) }
-        ensures rejected { IfErr result (IsNvReferenceRejection R.kind (serialize specifier.now)) }
-        ensures answer { (outcome : Result PackageNvReference Rejection)
-            → IsNvReferenceOutcome R.kind (serialize specifier.now) outcome
-            → IsNvReferenceAnswer (serialize specifier.now) outcome result }
     {
         RegistryNvReference::from_str(alloc, specifier.as_str())
     }

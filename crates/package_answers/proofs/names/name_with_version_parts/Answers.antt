@@ -18,10 +18,10 @@ returns-in-Err c =
     let message = rw c.as_str.ensures.value at c.message_failure-failure.ensures in
     let none : IsNvMemory e → failure ≡ None = λ m. no_message e.message failure message m.message in
     rw c.of.ensures (by_fault _ _ _ _ (fault_read kinds.Package 0 (IsNvOutcome text) ShowsRejection failure none
-    (λ (fault : Rejection) (r : ReportsNvFault fault text e). shown_message e.message fault failure message r.message) rejection_reason c.in-Err.ensures.rejected
-    (λ (n : PackageNv) o. c.in-Err.ensures.answer (Ok n) o) (λ (fault : Rejection) o. c.in-Err.ensures.answer (Err fault) o)))
+    (λ (fault : Rejection) (r : ReportsNvFault fault text e). shown_message e.message fault failure message r.message) rejection_reason c.in-Err.ensures.parsed.rejected
+    (λ (n : PackageNv) o. c.in-Err.ensures.parsed.answer (Ok n) o) (λ (fault : Rejection) o. c.in-Err.ensures.parsed.answer (Err fault) o)))
 
 pub returns : goal.returns
 returns c =
-    let parsed = value_read kinds.Package 0 (IsNvOutcome c.args.text.now) ShowsRejection c.in-Ok.nv c.in-Ok.ensures.read (λ (n : PackageNv) o. c.in-Ok.ensures.answer (Ok n) o) (λ (fault : Rejection) o. c.in-Ok.ensures.answer (Err fault) o) in
+    let parsed = value_read kinds.Package 0 (IsNvOutcome c.args.text.now) ShowsRejection c.in-Ok.nv c.in-Ok.ensures.parsed.read (λ (n : PackageNv) o. c.in-Ok.ensures.parsed.answer (Ok n) o) (λ (fault : Rejection) o. c.in-Ok.ensures.parsed.answer (Err fault) o) in
     by_value _ _ _ _ parsed _ (answered _ _ _ (c.in_ok-json_text.ensures (nv_json c.in-Ok.nv) (search rules) c.nv_json.ensures))
