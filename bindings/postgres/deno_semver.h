@@ -38,8 +38,9 @@ extern bool sv_must_repeat(sv_written *it);
         while (sv_must_repeat(it)); \
     } while (0)
 
-/* A string of the database's encoding in UTF-8, and back. */
+/* A string of the database's encoding in UTF-8, and back. That of a text may have no zero byte behind it, and is copied only if it must be. */
 extern sv_string sv_utf8(const char *string);
+extern sv_string sv_utf8_of(const text *string);
 extern const char *sv_server(const char *utf8, size_t len);
 extern text *sv_text(const char *utf8, size_t len);
 

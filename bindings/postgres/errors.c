@@ -51,6 +51,13 @@ sv_string sv_utf8(const char *string) {
     return (sv_string){utf8, strlen(utf8)};
 }
 
+sv_string sv_utf8_of(const text *string) {
+    const char *at = VARDATA_ANY(string);
+    int len = VARSIZE_ANY_EXHDR(string);
+    const char *utf8 = pg_server_to_any(at, len, PG_UTF8);
+    return (sv_string){utf8, utf8 == at ? (size_t)len : strlen(utf8)};
+}
+
 const char *sv_server(const char *utf8, size_t len) {
     char *copy = pnstrdup(utf8, len);
     return pg_any_to_server(copy, (int)strlen(copy), PG_UTF8);
@@ -62,10 +69,10 @@ text *sv_text(const char *utf8, size_t len) {
 
 uint32_t sv_grammar(const text *name) {
     static const char *const NAMES[] = {[SEMVER_NPM] = "npm", [SEMVER_NORMALIZED] = "normalized", [SEMVER_STRICT] = "strict"};
-    char *given = text_to_cstring(name);
+    size_t len = VARSIZE_ANY_EXHDR(name);
     for (uint32_t grammar = 0; grammar < lengthof(NAMES); grammar++)
-        if (strcmp(given, NAMES[grammar]) == 0) return grammar;
-    ereport(ERROR, errcode(ERRCODE_INVALID_PARAMETER_VALUE), errmsg("there is no grammar \"%s\"", given),
+        if (strlen(NAMES[grammar]) == len && memcmp(VARDATA_ANY(name), NAMES[grammar], len) == 0) return grammar;
+    ereport(ERROR, errcode(ERRCODE_INVALID_PARAMETER_VALUE), errmsg("there is no grammar \"%s\"", text_to_cstring(name)),
             errhint("Use \"npm\", \"normalized\" or \"strict\"."));
     return SEMVER_NPM;
 }

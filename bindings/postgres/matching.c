@@ -67,7 +67,7 @@ Datum deno_semver_matches(PG_FUNCTION_ARGS) {
 
 PG_FUNCTION_INFO_V1(deno_semver_matches_text);
 Datum deno_semver_matches_text(PG_FUNCTION_ARGS) {
-    sv_string version = sv_utf8(text_to_cstring(PG_GETARG_TEXT_PP(1)));
+    sv_string version = sv_utf8_of(PG_GETARG_TEXT_PP(1));
     sv_is_long(NULL, version, "semver");
     return matches(fcinfo, version);
 }

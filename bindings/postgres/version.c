@@ -77,7 +77,7 @@ Datum deno_semver_send(PG_FUNCTION_ARGS) {
 /* The version of a text, or NULL if it is none. */
 PG_FUNCTION_INFO_V1(deno_semver_try);
 Datum deno_semver_try(PG_FUNCTION_ARGS) {
-    sv_string version = sv_utf8(text_to_cstring(PG_GETARG_TEXT_PP(0)));
+    sv_string version = sv_utf8_of(PG_GETARG_TEXT_PP(0));
     char none[1];
     size_t needed;
     int32_t code = semver_version(SV_BYTES(version), none, 0, &needed);
