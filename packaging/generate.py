@@ -15,7 +15,7 @@ from typing import List, Optional
 HERE = pathlib.Path(__file__).resolve().parent
 TOP = HERE.parent
 EXAMPLES = (
-    "ranges check package.json",
+    "ranges check",
     "ranges explain '>=1.2 <2 || 3.x'",
     "ranges within '>=1.3' '^1.2'",
     "git tag | ranges best --tags --skip-invalid '^1.2'",
@@ -60,7 +60,7 @@ def rows(text, heading):
 
 def option(term, description):
     choices = re.search(r" ?\[possible values: ([^]]*)\]", description)
-    value = re.search(r"<([\w,]+)>", term)
+    value = re.search(r"<([\w,=]+)>", term)
     short = re.match(r"-(\w),", term)
     return Option(
         name=re.search(r"--([a-z-]+)", term).group(1),

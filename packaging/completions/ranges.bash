@@ -9,7 +9,7 @@ _ranges() {
         return
     fi
     case ${COMP_WORDS[1]} in
-        check) options="-j --json --github -c --canonical --strict -q --quiet -h --help -V --version" ;;
+        check) options="-j --json --github -c --canonical --rule --strict -q --quiet -h --help -V --version" ;;
         explain) options="-j --json -g --grammar -p --pre -h --help -V --version" ;;
         normal) options="-j --json -g --grammar -h --help -V --version" ;;
         min) options="-j --json -g --grammar -p --pre -h --help -V --version" ;;

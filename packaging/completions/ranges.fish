@@ -3,6 +3,7 @@ complete -c ranges -n __fish_use_subcommand -a check -d 'Check the ranges of pac
 complete -c ranges -n '__fish_seen_subcommand_from check' -s j -l json -d 'Print JSON'
 complete -c ranges -n '__fish_seen_subcommand_from check' -l github -d 'Print GitHub Actions annotations'
 complete -c ranges -n '__fish_seen_subcommand_from check' -s c -l canonical -d 'Print every range with its canonical form'
+complete -c ranges -n '__fish_seen_subcommand_from check' -l rule -x -a '' -d 'Set a rule\'s level: off, warn or error'
 complete -c ranges -n '__fish_seen_subcommand_from check' -l strict -d 'Exit with 1 on a warning'
 complete -c ranges -n '__fish_seen_subcommand_from check' -s q -l quiet -d 'Print no result, only errors'
 complete -c ranges -n '__fish_seen_subcommand_from check' -s h -l help -d 'Print help'

@@ -149,10 +149,26 @@ def commands():
 
 
 MANIFEST = b'{"dependencies": {"a": "^1.2 || ^1", "b": ">=1.2<2", "c": "npm:d@^1.2.3-rc.1", "h": 1}, "imports": {"e": "jsr:@f/g@1"}}'
+# One with a finding of each rule, a setting, a version, a package manager and workspaces.
+ODD = (
+    b'{"ranges": {"rules": {"not-canonical": "warn", "no-such": "off"}}, "version": "1", "packageManager": "npm", "workspaces": ["p/*"], '
+    b'"dependencies": {"a": "^1 or ^2", "b": "1.x.3 || latest", "c": "^0", "a": "1, 2", "d": "~~1", "e": "^7.0.0-0", "f": "1.2/3/4", "g": "npm:a/b"}, '
+    b'"peerDependencies": {"a": "^3", "c": "2"}, "peerDependenciesMeta": {"h": {"optional": true}}, "overrides": {"i": {"j": "1 || 1,2"}}}'
+)
+WORKSPACE = b"packages:\n  - 'p/*'\ncatalog:\n  \"a\": '^0'\ncatalogs:\n  b:\n    c: >=1\n"
 VERSIONS = b"1.2.3-rc\n2.1.0\n1.x\n\"2.\\u0030.0\"\n"
 
 
-def ranges_commands():
+def folder_of_manifests(room):
+    """A folder with manifests in it and below it."""
+    folder = pathlib.Path(room, "manifests")
+    for name, held in {"package.json": MANIFEST, "pnpm-workspace.yaml": WORKSPACE, "p/a/package.json": ODD, "p/b/c/deno.jsonc": b"{}"}.items():
+        (folder / name).parent.mkdir(parents=True, exist_ok=True)
+        (folder / name).write_bytes(held)
+    return str(folder)
+
+
+def ranges_commands(folder):
     """Commands of ranges, each with its standard input."""
     loose, tag = TEXTS[0], "latest"
     for json_form in ([], ["--json"]):
@@ -162,12 +178,14 @@ def ranges_commands():
         yield from ((["compare", *json_form, "1.2.3-rc", "1.2.3"], b""), (["overlap", *json_form, "*", ">=1.0.0-a <1.0.0", "1"], b""))
         yield from ((["sort", *json_form, "--reverse", "--skip-invalid"], VERSIONS), (["min", *json_form, loose], b""))
         yield from ((["key", *json_form, "--skip-invalid"], VERSIONS), (["scans", *json_form, loose], b""))
-        yield from ((["check", *json_form, "--canonical"], MANIFEST), (["explain", *json_form, "1 2 <"], b""))
+        yield from ((["check", *json_form, "--canonical", "-"], MANIFEST), (["explain", *json_form, "1 2 <"], b""))
+        rules = [word for rule in ("meta-without-range", "pre-release-bound") for word in ("--rule", f"{rule}=warn")]
+        yield from ((["check", *json_form, *rules, "-"], ODD), (["check", *json_form, folder], b""))
         yield from ((["package", *json_form, TEXTS[2]], b""), (["reference", *json_form, "jsr:@a/b@^1/c.ts"], b""))
     yield ["scans", "--where", "key,pre", "^1.2.3-beta || 3"], b""
     yield from ((["filter", "-q", "*"], b'["1.0.0", "2.0.0-a"]'), (["best", "--tags", "*", "-r", "1"], b"refs/tags/v1.0.0\n"))
-    yield from ((["check", "--github"], MANIFEST), (["--help"], b""), (["frobnicate"], b""), (["check", "none.json"], b""))
-    yield from ((["check"], b"{"), (["check"], b"[]"), (["filter", "*"], b"{}"))
+    yield from ((["check", "--github", "-"], MANIFEST), (["--help"], b""), (["frobnicate"], b""), (["check", "none.json"], b""))
+    yield from ((["check", "-"], b"{"), (["check", "-"], b"[]"), (["filter", "*"], b"{}"), (["check", "--rule", "none=off"], b""))
 
 
 def status_of(arguments, out, err):
@@ -226,9 +244,9 @@ def main():
             sweeps.append(Sweep(f"{call}: {line.decode()}", [built("conformance")], line, is_right))
     for arguments in commands():
         sweeps.append(Sweep(f"npmver {arguments}", [built("npmver"), *arguments], b"", command_is_right))
-    for arguments, given in ranges_commands():
-        sweeps.append(Sweep(f"ranges {arguments}", [built("ranges"), *arguments], given, ranges_is_right))
     with tempfile.TemporaryDirectory() as room:
+        for arguments, given in ranges_commands(folder_of_manifests(room)):
+            sweeps.append(Sweep(f"ranges {arguments}", [built("ranges"), *arguments], given, ranges_is_right))
         preload = library(room)
         with ThreadPoolExecutor(os.cpu_count()) as pool:
             done = list(pool.map(lambda it: it.go(preload), sweeps))

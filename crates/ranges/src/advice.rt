@@ -1,5 +1,6 @@
 //! What is legal in a range, and surely not meant.
 
+use crate::rules::Rule;
 use answers::asking::{Answer, Problem};
 use answers::explained::{Meaning, Piece};
 use answers::questions::version_outside;
@@ -10,27 +11,32 @@ use std::alloc::{AllocError, Global};
 /// More alternatives than these aren't compared with one another.
 const MANY: usize = 32;
 
-/// A warning about a range.
-pub type Warnings = Vec<String>;
+/// The warnings about a range, and the rules that they come by.
+pub type Warnings = Vec<(Rule, String)>;
 
 // What is odd about one of several alternatives, or the only one.
-fn of_piece(alloc: Global, piece: &Piece, is_only: bool) -> Result<Option<String>, AllocError> {
+fn of_piece(
+    alloc: Global,
+    piece: &Piece,
+    is_only: bool,
+) -> Result<Option<(Rule, String)>, AllocError> {
     let text = piece.text.as_str().trim();
     let Meaning::Range(matches) = &piece.meaning else {
         return Ok(None);
     };
-    let warning = if text.is_empty() {
+    Ok(Some(if text.is_empty() {
         let what = if is_only { "range" } else { "alternative" };
-        format!(in alloc; "an empty {what} matches every version")
+        let warning = format!(in alloc; "an empty {what} matches every version")?;
+        (Rule::EmptyAlternative, warning)
     } else if matches.lowest.is_none() {
-        format!(in alloc; "`{text}` matches no version")
+        let warning = format!(in alloc; "`{text}` matches no version")?;
+        (Rule::NoMatch, warning)
     } else if matches!(text, "^0" | "^0.x" | "^0.*") {
         let hint = "matches every 0.x, though each may break: name its minor version";
-        format!(in alloc; "`{text}` {hint}")
+        (Rule::AnyZero, format!(in alloc; "`{text}` {hint}")?)
     } else {
         return Ok(None);
-    };
-    Ok(Some(warning?))
+    }))
 }
 
 // Whether each match of one alternative is one of the other.
@@ -73,9 +79,26 @@ pub fn warnings(alloc: Global, pieces: &[Piece]) -> Result<Warnings, AllocError>
                 && (other_place < place || !is_contained(alloc, other, piece)?);
             if is_needless {
                 let (text, whole) = (piece.text.as_str().trim(), other.text.as_str().trim());
-                warnings.push(format!(in alloc; "`{whole}` contains `{text}`")?)?;
+                let warning = format!(in alloc; "`{whole}` contains `{text}`")?;
+                warnings.push((Rule::ContainedAlternative, warning))?;
             }
         }
     }
     Ok(warnings)
+}
+
+/// The first alternative with a bound that is a pre-release. That of a single version is none.
+pub fn bound_of_pre_releases(pieces: &[Piece]) -> Option<&str> {
+    let piece = pieces.iter().find(|piece| {
+        let text = piece.text.as_str().trim();
+        let has_operator = text.starts_with(['^', '~', '<', '>'].as_slice());
+        match &piece.meaning {
+            Meaning::Range(matches) => {
+                let has_pre = matches.pre_of_start || matches.pre_of_end;
+                has_pre && (has_operator || text.contains(' '))
+            }
+            Meaning::LeftOut(_) => false,
+        }
+    })?;
+    Some(piece.text.as_str().trim())
 }

@@ -1,318 +1,264 @@
 //! `ranges check`: the ranges of package.json, deno.json, import maps and lists of ranges.
 
-use crate::advice::warnings;
-use crate::errors::{add_first, errors_at_end, errors_of, print_errors};
+use crate::advice::{bound_of_pre_releases, warnings};
+use crate::errors::{errors_at_end, errors_of};
 use crate::explaining::has_left_out;
-use answers::asking::Problem;
+use crate::findings::{Cause, Finding, Format, Position, Report};
+use crate::rules::{Levels, Rule};
+use crate::walking::{Manifests, manifests_here, manifests_in};
+use answers::asking::{Answer, Problem};
 use answers::explained::{Explanation, Meaning, Piece, explain};
-use answers::object::Object;
+use answers::questions::common_version;
 use clap::ArgMatches;
 use deno_semver::PreRelease;
 use package_answers::errors::PackageErrors;
 use package_answers::references::read_reference;
 use semver_req::common::values::Flavour;
-use serde_json::Value;
 use std::alloc::{AllocError, Global};
+use std::collections::{HashMap, HashSet};
 use std::fs;
 use std::io::{BufRead, ErrorKind, Read, Write};
-use std::rt::Files;
-use terminal::console::{Console, END, ERROR, Status, Stop, WARNING, print_line};
-use terminal::hints::{is_protocol, question};
-use terminal::manifest::{Entry, Kind, entries};
+use std::rt::{Files, Runtime};
+use terminal::console::{Console, Status, Stop};
+use terminal::hints::question;
+use terminal::manifest::{Entry, entries};
+use terminal::npm::{self, Reading, Source, number_behind_wildcard, source_of};
+use terminal::pointing::version_errors;
+use terminal::sections::Kind;
 use terminal::shown::{Quoted, Shown};
 
-// How findings are printed.
-#[derive(Clone, Copy, PartialEq, Eq)]
-enum Format {
-    Lines,
-    Json,
-    GitHub,
-}
+// ---- ranges
 
-#[derive(Clone, Copy, PartialEq, Eq)]
-enum Level {
-    Error,
-    Warning,
-    /// A range that is as it should be.
-    Fine,
-}
-
-impl Level {
-    fn name(self) -> &'static str {
-        match self {
-            Level::Error => "error",
-            Level::Warning => "warning",
-            Level::Fine => "notice",
-        }
-    }
-}
-
-// What was found in an entry.
-#[derive(Clone, Copy)]
-struct Finding<'f> {
-    level: Level,
-    message: &'f str,
-    /// Where the text is wrong.
-    errors: Option<&'f PackageErrors>,
-}
-
-impl<'f> Finding<'f> {
-    // A finding without the places of errors.
-    fn new(level: Level, message: &'f str) -> Finding<'f> {
-        Finding {
-            level,
-            message,
-            errors: None,
-        }
-    }
-}
-
-// A place in a file: the line and the column, counted from 1.
-#[derive(Clone, Copy)]
-struct Position {
-    index: usize,
-    line: usize,
-    column: usize,
-}
-
-const START: Position = Position {
-    index: 0,
-    line: 1,
-    column: 1,
-};
-
-// The findings so far.
-#[derive(Clone, Copy)]
-struct Report<'r> {
-    format: Format,
-    /// Whether each range is printed with its canonical form.
-    canonical: bool,
-    file: &'r str,
-    position: Position,
-    status: Status,
-    /// The status of a warning.
-    warning: Status,
-}
-
-// A text as GitHub reads it in an annotation, where in a property `:` and `,` are escaped too.
-fn escaped(alloc: Global, text: &str, is_property: bool) -> Result<String, AllocError> {
-    let mut all = String::new(alloc);
-    for c in text.chars() {
-        match c {
-            '%' => all.push_str("%25")?,
-            ':' if is_property => all.push_str("%3A")?,
-            ',' if is_property => all.push_str("%2C")?,
-            c => all.push(c)?,
-        }
-    }
-    Ok(all)
-}
-
-// The name of an entry and its text, where there are such, and the message.
-fn line(alloc: Global, entry: &Entry, message: &str) -> Result<String, AllocError> {
-    let (name, text) = (Shown(entry.name.as_str()), Quoted(entry.text.as_str()));
-    let message = Shown(message);
-    match (entry.name.is_empty(), entry.kind) {
-        (true, Kind::Mistake(_)) => format!(in alloc; "{message}"),
-        (false, Kind::Mistake(_)) => format!(in alloc; "{name}: {message}"),
-        (true, _) => format!(in alloc; "{text}: {message}"),
-        (false, _) => format!(in alloc; "{name}: {text}: {message}"),
-    }
-}
-
-impl Report<'_> {
-    fn json(
-        &self,
-        alloc: Global,
-        entry: &Entry,
-        finding: Finding<'_>,
-    ) -> Result<Value, AllocError> {
-        let key = match finding.level {
-            Level::Error | Level::Warning => "message",
-            Level::Fine => "normal",
+// Reports that npm refuses a range of this grammar, and why.
+fn refuse<O: Write, E: Write>(
+    console: &mut Console<O, E>,
+    report: &mut Report<'_>,
+    entry: &Entry,
+    range: &str,
+    pieces: &[Piece],
+    reading: Reading,
+) -> Result<(), Stop> {
+    if has_left_out(pieces) {
+        let errors = errors_at_end(console.alloc, Flavour::Npm, entry.text.as_str(), range)?;
+        let message = "npm refuses it: no alternative is a range";
+        let finding = Finding {
+            errors: Some(&errors),
+            ..Finding::new(Cause::Refused, message)
         };
-        let text = match entry.kind {
-            Kind::Mistake(_) => None,
-            _ => Some(entry.text.as_str()),
-        };
-        let mut json = Object::new(alloc)
-            .put("column", Ok(Value::from(self.position.column)))
-            .put_text("file", Some(self.file))
-            .put_text("level", Some(finding.level.name()))
-            .put("line", Ok(Value::from(self.position.line)))
-            .put_text(key, Some(finding.message))
-            .put_text("name", Some(entry.name.as_str()))
-            .put_text("text", text);
-        if let Some(errors) = finding.errors {
-            json = add_first(alloc, json, entry.text.as_str(), errors);
-        }
-        json.into_json()
+        report.add(console, entry, finding)?;
     }
-
-    // Counts a finding, and prints it: as JSON, as GitHub's annotation, or as a line.
-    fn add<O: Write, E: Write>(
-        &mut self,
-        console: &mut Console<O, E>,
-        entry: &Entry,
-        finding: Finding<'_>,
-    ) -> Result<(), Stop> {
-        let status = match finding.level {
-            Level::Error => Status::Rejected,
-            Level::Warning => self.warning,
-            Level::Fine => Status::Answered,
-        };
-        self.status = self.status.worse(status);
-        match self.format {
-            Format::Json => console.item(self.json(console.alloc, entry, finding)),
-            Format::GitHub => {
-                let message = line(console.alloc, entry, finding.message)?;
-                let message = escaped(console.alloc, message.as_str(), false)?;
-                let file = format!(in console.alloc; "{}", Shown(self.file))?;
-                let file = escaped(console.alloc, file.as_str(), true)?;
-                let level = finding.level.name();
-                let Position { line, column, .. } = self.position;
-                print_line(
-                    &mut console.out,
-                    format_args!("::{level} file={file},line={line},col={column}::{message}"),
-                )
-            }
-            Format::Lines => self.print(console, entry, finding),
-        }
-    }
-
-    // Prints a finding as a line, and where the text is wrong.
-    fn print<O: Write, E: Write>(
-        &self,
-        console: &mut Console<O, E>,
-        entry: &Entry,
-        finding: Finding<'_>,
-    ) -> Result<(), Stop> {
-        let message = line(console.alloc, entry, finding.message)?;
-        let style = console.terminal.out;
-        let start = match finding.level {
-            Level::Error => style.code(ERROR),
-            Level::Warning | Level::Fine => style.code(WARNING),
-        };
-        let (file, end) = (Shown(self.file), style.code(END));
-        let Position { line, column, .. } = self.position;
-        write!(console.out, "{file}:{line}:{column}: ")?;
-        if finding.level != Level::Fine {
-            write!(console.out, "{start}{}{end}: ", finding.level.name())?;
-        }
-        print_line(&mut console.out, message.as_str())?;
-        match finding.errors {
-            Some(errors) => {
-                let grammar = match entry.kind {
-                    Kind::Specifier => Flavour::Specifier,
-                    Kind::Range | Kind::Dependency | Kind::Mistake(_) => Flavour::Npm,
-                };
-                let text = entry.text.as_str();
-                print_errors(&mut console.out, style, text, errors, Some(grammar))
-            }
-            None => Ok(()),
-        }
-    }
+    let message = if range.contains(',') {
+        "npm refuses `,`: write a space"
+    } else if reading == Reading::TooLarge {
+        "npm refuses a number above 9007199254740991, and a version of more than 256 characters"
+    } else if has_left_out(pieces) {
+        return Ok(());
+    } else {
+        "npm refuses it"
+    };
+    report.add(console, entry, Finding::new(Cause::Refused, message))
 }
 
-// Whether npm keeps the alternative: it passes over one that isn't a range, and over words with a `,`.
-fn is_kept(piece: &Piece) -> bool {
-    let text = piece.text.as_str().trim();
-    match piece.meaning {
-        Meaning::Range(_) => {
-            text.is_empty() || text.split_whitespace().any(|word| !word.contains(','))
-        }
-        Meaning::LeftOut(_) => false,
-    }
-}
-
-// Reports what npm refuses or passes over, and what is odd about the alternatives.
-fn warn<O: Write, E: Write>(
+// Reports what npm makes of a dependency in another way than this grammar.
+fn compare_with_npm<O: Write, E: Write>(
     console: &mut Console<O, E>,
     report: &mut Report<'_>,
     entry: &Entry,
     range: &str,
     pieces: &[Piece],
 ) -> Result<(), Stop> {
-    let has_nothing = entry.kind == Kind::Dependency && !pieces.iter().any(is_kept);
-    if has_left_out(pieces) && has_nothing {
-        let errors = errors_at_end(console.alloc, Flavour::Npm, entry.text.as_str(), range)?;
-        let message = "npm refuses it: no alternative is a range";
-        let finding = Finding {
-            errors: Some(&errors),
-            ..Finding::new(Level::Error, message)
-        };
-        report.add(console, entry, finding)?;
-    } else if has_left_out(pieces) {
-        let errors = errors_at_end(console.alloc, Flavour::Npm, entry.text.as_str(), range)?;
-        let message = "npm leaves out an alternative that isn't a range";
-        let finding = Finding {
-            errors: Some(&errors),
-            ..Finding::new(Level::Warning, message)
-        };
-        report.add(console, entry, finding)?;
+    let read = npm::read_range(range);
+    match read.reading {
+        Reading::Refused | Reading::TooLarge => {
+            return refuse(console, report, entry, range, pieces, read.reading);
+        }
+        Reading::Tag => {
+            let finding = Finding::by(Rule::NpmDiffers, "npm reads it as a tag");
+            return report.add(console, entry, finding);
+        }
+        Reading::Range => (),
     }
-    if range.contains(',') && has_nothing {
-        let message = "npm refuses `,`: write a space";
-        report.add(console, entry, Finding::new(Level::Error, message))?;
+    match read.dropped {
+        _ if has_left_out(pieces) => {
+            report_left_out(console, report, entry, range, read.dropped.is_some())?;
+        }
+        Some(dropped) => {
+            let message = format!(in console.alloc; "npm leaves out `{dropped}`: `,` isn't read")?;
+            let finding = Finding::by(Rule::DroppedAlternative, message.as_str());
+            report.add(console, entry, finding)?;
+        }
+        None => (),
+    }
+    if let Some(ignored) = read.ignored {
+        report_ignored(console, report, entry, ignored, None)?;
+    }
+    Ok(())
+}
+
+// Reports that an alternative isn't a range, and that npm leaves it out or reads it.
+fn report_left_out<O: Write, E: Write>(
+    console: &mut Console<O, E>,
+    report: &mut Report<'_>,
+    entry: &Entry,
+    range: &str,
+    is_dropped: bool,
+) -> Result<(), Stop> {
+    let errors = errors_at_end(console.alloc, Flavour::Npm, entry.text.as_str(), range)?;
+    if is_dropped {
+        let message = "npm leaves out an alternative that isn't a range";
+        report.add_with(
+            console,
+            entry,
+            Cause::Rule(Rule::DroppedAlternative),
+            message,
+            &errors,
+        )
+    } else {
+        let message = "npm reads an alternative that Deno leaves out";
+        report.add_with(
+            console,
+            entry,
+            Cause::Rule(Rule::NpmDiffers),
+            message,
+            &errors,
+        )
+    }
+}
+
+// Reports a word that npm ignores.
+fn report_ignored<O: Write, E: Write>(
+    console: &mut Console<O, E>,
+    report: &mut Report<'_>,
+    entry: &Entry,
+    ignored: &str,
+    errors: Option<&PackageErrors>,
+) -> Result<(), Stop> {
+    let hint = if ignored.contains(',') || ignored.contains("&&") {
+        ": write a space"
+    } else {
+        ""
+    };
+    let message = format!(in console.alloc; "npm ignores {}{hint}", Quoted(ignored))?;
+    let finding = Finding {
+        errors,
+        ..Finding::by(Rule::IgnoredComparator, message.as_str())
+    };
+    report.add(console, entry, finding)
+}
+
+// Reports what is odd about a range, given its alternatives and its canonical form.
+fn warn<O: Write, E: Write>(
+    console: &mut Console<O, E>,
+    report: &mut Report<'_>,
+    entry: &Entry,
+    range: &str,
+    pieces: &[Piece],
+    normal: &str,
+) -> Result<(), Stop> {
+    let alloc = console.alloc;
+    if entry.kind == Kind::Dependency {
+        compare_with_npm(console, report, entry, range, pieces)?;
+    } else if has_left_out(pieces) {
+        report_left_out(console, report, entry, range, true)?;
     }
     // node-semver, and so npm, reads these in another way.
-    let warning = if range.trim_end().ends_with("||") {
-        Some("node-semver reads what follows the last `||` as every version")
-    } else if !has_nothing && (range.contains(',') || range.contains("&&")) {
-        Some("node-semver rejects `,` and `&&`: write a space")
-    } else {
-        None
-    };
-    if let Some(warning) = warning {
-        report.add(console, entry, Finding::new(Level::Warning, warning))?;
+    if range.trim_end().ends_with("||") {
+        let message = "node-semver reads what follows the last `||` as every version";
+        report.add(console, entry, Finding::by(Rule::NpmDiffers, message))?;
     }
-    let warnings = warnings(console.alloc, pieces)?;
-    for warning in warnings.iter() {
+    if entry.kind != Kind::Dependency && (range.contains(',') || range.contains("&&")) {
+        let message = "node-semver rejects `,` and `&&`: write a space";
         report.add(
             console,
             entry,
-            Finding::new(Level::Warning, warning.as_str()),
+            Finding::by(Rule::IgnoredComparator, message),
+        )?;
+    }
+    if let Some((word, read)) = number_behind_wildcard(range)
+        && entry.kind != Kind::Specifier
+    {
+        let message = format!(in alloc; "npm reads `{word}` as `{read}`")?;
+        report.add(
+            console,
+            entry,
+            Finding::by(Rule::NpmDiffers, message.as_str()),
+        )?;
+    }
+    let warnings = warnings(alloc, pieces)?;
+    for (rule, warning) in warnings.iter() {
+        report.add(console, entry, Finding::by(*rule, warning.as_str()))?;
+    }
+    if let Some(piece) = bound_of_pre_releases(pieces) {
+        let message = format!(in alloc; "a bound of `{piece}` is a pre-release")?;
+        report.add(
+            console,
+            entry,
+            Finding::by(Rule::PreReleaseBound, message.as_str()),
+        )?;
+    }
+    if range.trim() != normal {
+        let message = format!(in alloc; "the canonical form is `{normal}`")?;
+        report.add(
+            console,
+            entry,
+            Finding::by(Rule::NotCanonical, message.as_str()),
         )?;
     }
     Ok(())
 }
 
-// What follows the `@` behind a name, whose scope begins with `@`, too.
-fn behind_name(text: &str) -> Option<&str> {
-    let name = text.strip_prefix('@').unwrap_or(text);
-    let (_, range) = name.rsplit_once('@')?;
-    Some(range)
+// Reports a text that isn't a range of this grammar. npm may take it for one, or for a tag.
+fn report_invalid<O: Write, E: Write>(
+    console: &mut Console<O, E>,
+    report: &mut Report<'_>,
+    entry: &Entry,
+    flavour: Flavour,
+    range: &str,
+) -> Result<(), Stop> {
+    let errors = errors_at_end(console.alloc, flavour, entry.text.as_str(), range)?;
+    let read = npm::read_range(range);
+    match (entry.kind, read.reading, read.ignored) {
+        (Kind::Dependency, Reading::Range, Some(ignored)) => {
+            report_ignored(console, report, entry, ignored, Some(&errors))
+        }
+        (Kind::Dependency, Reading::Range, None) => {
+            let message = "npm reads a range that Deno doesn't";
+            report.add_with(
+                console,
+                entry,
+                Cause::Rule(Rule::NpmDiffers),
+                message,
+                &errors,
+            )
+        }
+        (Kind::Dependency, Reading::Tag, _) => {
+            let message = "npm reads it as a tag: is a range meant?";
+            report.add_with(console, entry, Cause::Rule(Rule::OddTag), message, &errors)
+        }
+        (_, _, _) => report.add_with(
+            console,
+            entry,
+            Cause::Refused,
+            "not a version range",
+            &errors,
+        ),
+    }
 }
 
-fn is_path(text: &str) -> bool {
-    text.starts_with(['.', '/', '$'].as_slice())
-}
-
-// The range of a text: the whole text, or what follows the name in `npm:name@range`, `jsr:` or `workspace:`, with a name or without, or
-// `#semver:`; none if it is another protocol.
-fn range_of(text: &str) -> Option<&str> {
-    if let Some(name) = text.strip_prefix("npm:") {
-        return behind_name(name);
+// Checks a tag.
+fn check_tag<O: Write, E: Write>(
+    console: &mut Console<O, E>,
+    report: &mut Report<'_>,
+    entry: &Entry,
+    tag: &str,
+) -> Result<(), Stop> {
+    if entry.kind == Kind::Dependency && npm::read_range(tag).reading == Reading::Refused {
+        let message = "npm refuses the tag: it has a character that URLs don't";
+        return report.add(console, entry, Finding::new(Cause::Refused, message));
     }
-    if let Some(range) = text
-        .strip_prefix("jsr:")
-        .or_else(|| text.strip_prefix("workspace:"))
-    {
-        return match range {
-            "^" | "~" => None,
-            _ if is_path(range) => None,
-            _ if range.contains(['@', '/'].as_slice()) => behind_name(range),
-            _ => Some(range),
-        };
-    }
-    if let Some((_, range)) = text.rsplit_once("#semver:") {
-        return Some(range);
-    }
-    let is_repository = text.contains('/') && !text.contains(' ');
-    if is_path(text) || is_repository || is_protocol(text) {
-        None
-    } else {
-        Some(text)
+    match question(tag) {
+        Some(question) => report.add(console, entry, Finding::by(Rule::OddTag, question)),
+        None => Ok(()),
     }
 }
 
@@ -325,26 +271,45 @@ fn check_range<O: Write, E: Write>(
     range: &str,
 ) -> Result<(), Stop> {
     match explain(console.alloc, flavour, PreRelease::Restricted, range) {
-        Ok(Explanation::Tag(tag)) => match question(tag.as_str()) {
-            Some(question) => report.add(console, entry, Finding::new(Level::Warning, question)),
-            None => Ok(()),
-        },
+        Ok(Explanation::Tag(tag)) => check_tag(console, report, entry, tag.as_str()),
         Ok(Explanation::Ranges { pieces, normal }) => {
-            warn(console, report, entry, range, pieces.as_slice())?;
+            warn(
+                console,
+                report,
+                entry,
+                range,
+                pieces.as_slice(),
+                normal.as_str(),
+            )?;
             if !report.canonical {
                 return Ok(());
             }
-            report.add(console, entry, Finding::new(Level::Fine, normal.as_str()))
+            report.add(console, entry, Finding::new(Cause::Fine, normal.as_str()))
         }
-        Err(Problem::Invalid(_)) => {
-            let errors = errors_at_end(console.alloc, flavour, entry.text.as_str(), range)?;
-            let finding = Finding {
-                errors: Some(&errors),
-                ..Finding::new(Level::Error, "not a version range")
-            };
-            report.add(console, entry, finding)
-        }
+        Err(Problem::Invalid(_)) => report_invalid(console, report, entry, flavour, range),
         Err(Problem::OutOfMemory) => Err(Stop::OutOfMemory),
+    }
+}
+
+// ---- entries
+
+// Checks a dependency, or a range on a line, which may name a package, too.
+fn check_dependency<O: Write, E: Write>(
+    console: &mut Console<O, E>,
+    report: &mut Report<'_>,
+    entry: &Entry,
+) -> Result<(), Stop> {
+    let text = entry.text.as_str();
+    match source_of(text) {
+        Source::Registry(range) => check_range(console, report, entry, Flavour::Npm, range),
+        Source::Elsewhere | Source::Odd(_) if entry.kind == Kind::Range && text.contains(' ') => {
+            check_range(console, report, entry, Flavour::Npm, text)
+        }
+        Source::Elsewhere => Ok(()),
+        Source::Odd(message) => report.add(console, entry, Finding::by(Rule::OddPath, message)),
+        Source::Refused(message) => {
+            report.add(console, entry, Finding::new(Cause::Refused, message))
+        }
     }
 }
 
@@ -367,12 +332,180 @@ fn check_specifier<O: Write, E: Write>(
             let errors = errors_of(console.alloc, Flavour::Specifier, text, &invalid)?;
             let finding = Finding {
                 errors: Some(&errors),
-                ..Finding::new(Level::Error, invalid.failure.message())
+                ..Finding::new(Cause::Refused, invalid.failure.message())
             };
             report.add(console, entry, finding)
         }
         Err(Problem::OutOfMemory) => Err(Stop::OutOfMemory),
     }
+}
+
+// Checks the version of a package.
+fn check_version<O: Write, E: Write>(
+    console: &mut Console<O, E>,
+    report: &mut Report<'_>,
+    entry: &Entry,
+) -> Result<(), Stop> {
+    let text = entry.text.as_str();
+    if text.is_empty() || npm::is_version(text) {
+        return Ok(());
+    }
+    let errors = PackageErrors::Range(version_errors(console.alloc, text)?);
+    let finding = Finding {
+        errors: Some(&errors),
+        ..Finding::new(Cause::Refused, "not a version")
+    };
+    report.add(console, entry, finding)
+}
+
+// Checks a package manager with its version.
+fn check_manager<O: Write, E: Write>(
+    console: &mut Console<O, E>,
+    report: &mut Report<'_>,
+    entry: &Entry,
+) -> Result<(), Stop> {
+    let (_, version) = entry.text.as_str().split_once('@').unwrap_or(("", ""));
+    if npm::is_version(version) || version.contains("://") {
+        return Ok(());
+    }
+    let message = "expected a name and an exact version, such as \"npm@1.2.3\"";
+    report.add(console, entry, Finding::new(Cause::Refused, message))
+}
+
+// The range of an entry that a section asks a registry for.
+fn asked_range(entry: &Entry) -> Option<&str> {
+    let is_section = matches!(
+        entry.section,
+        "dependencies" | "devDependencies" | "optionalDependencies" | "peerDependencies"
+    );
+    match source_of(entry.text.as_str()) {
+        Source::Registry(range) if is_section && range.len() == entry.text.len() => Some(range),
+        _ => None,
+    }
+}
+
+// Whether some version matches both ranges.
+fn have_common_version(alloc: Global, one: &str, other: &str) -> Result<bool, AllocError> {
+    match common_version(alloc, Flavour::Npm, PreRelease::Restricted, &[one, other]) {
+        Ok(Answer::Value(lowest)) => Ok(lowest.is_some()),
+        Ok(Answer::Tag(_)) | Err(Problem::Invalid(_)) => Ok(false),
+        Err(Problem::OutOfMemory) => Err(AllocError),
+    }
+}
+
+// Whether both ranges match versions, and none in common.
+fn are_disjoint(alloc: Global, one: &str, other: &str) -> Result<bool, AllocError> {
+    Ok(
+        have_common_version(alloc, one, one)?
+            && have_common_version(alloc, other, other)?
+            && !have_common_version(alloc, one, other)?,
+    )
+}
+
+// Reports that the entry asks for other versions than an entry of another section.
+fn check_sections<O: Write, E: Write>(
+    console: &mut Console<O, E>,
+    report: &mut Report<'_>,
+    entry: &Entry,
+    other: &Entry,
+) -> Result<(), Stop> {
+    if entry.section == other.section {
+        return Ok(());
+    }
+    if let Some(range) = asked_range(entry)
+        && let Some(other_range) = asked_range(other)
+        && are_disjoint(console.alloc, range, other_range)?
+    {
+        let section = other.section;
+        let message = format!(in console.alloc;
+            "no version matches `{other_range}` of {section} as well"
+        )?;
+        let finding = Finding::by(Rule::DisjointSections, message.as_str());
+        return report.add(console, entry, finding);
+    }
+    Ok(())
+}
+
+// What entries say of one another.
+#[derive(Drop)]
+struct Names<'e> {
+    /// The last entry so far of each name that a section asks a registry for.
+    asked: HashMap<&'e str, &'e Entry>,
+    /// The names of all peer dependencies.
+    peers: HashSet<&'e str>,
+}
+
+// Checks an entry.
+fn check_entry<'e, O: Write, E: Write>(
+    console: &mut Console<O, E>,
+    report: &mut Report<'_>,
+    names: &mut Names<'e>,
+    entry: &'e Entry,
+) -> Result<(), Stop> {
+    match entry.kind {
+        Kind::Dependency => {
+            check_dependency(console, report, entry)?;
+            if asked_range(entry).is_some()
+                && let Some(other) = names.asked.insert(entry.name.as_str(), entry)?
+            {
+                check_sections(console, report, entry, other)?;
+            }
+            Ok(())
+        }
+        Kind::Range => check_dependency(console, report, entry),
+        Kind::Specifier => check_specifier(console, report, entry),
+        Kind::Version => check_version(console, report, entry),
+        Kind::Manager => check_manager(console, report, entry),
+        Kind::Meta if names.peers.contains(entry.name.as_str()) => Ok(()),
+        Kind::Meta => {
+            let finding = Finding::by(
+                Rule::MetaWithoutRange,
+                "peerDependencies has no range for it",
+            );
+            report.add(console, entry, finding)
+        }
+        Kind::Repeated => {
+            let finding = Finding::by(
+                Rule::DuplicateKey,
+                "the key stands before, too: the last one counts",
+            );
+            report.add(console, entry, finding)
+        }
+        Kind::Mistake(message) => report.add(console, entry, Finding::new(Cause::Refused, message)),
+        Kind::Workspace | Kind::Level => Ok(()),
+    }
+}
+
+// ---- files
+
+// Sets the levels that a file asks for, and then those that the arguments do.
+fn set_levels<O: Write, E: Write>(
+    console: &mut Console<O, E>,
+    report: &mut Report<'_>,
+    text: &str,
+    entries: &[Entry],
+    settings: &[&str],
+) -> Result<(), Stop> {
+    report.levels = Levels::new();
+    for entry in entries.iter().filter(|entry| entry.kind == Kind::Level) {
+        if let Err(unknown) = report.levels.set(entry.name.as_str(), entry.text.as_str()) {
+            report.position.move_to(text, entry.start);
+            let message = format!(in console.alloc; "{unknown}")?;
+            report.add(
+                console,
+                entry,
+                Finding::new(Cause::Refused, message.as_str()),
+            )?;
+            report.status = report.status.worse(Status::Misused);
+        }
+    }
+    report.position = Position::START;
+    for setting in settings {
+        let (name, level) = setting.split_once('=').unwrap_or((*setting, ""));
+        // They were tried before.
+        let _ = report.levels.set(name, level);
+    }
+    Ok(())
 }
 
 // Checks the entries of a file.
@@ -382,39 +515,29 @@ fn check_entries<O: Write, E: Write>(
     text: &str,
     entries: &[Entry],
 ) -> Result<(), Stop> {
+    let mut names = Names {
+        asked: HashMap::new(console.alloc),
+        peers: HashSet::new(console.alloc),
+    };
+    for entry in entries
+        .iter()
+        .filter(|entry| entry.section == "peerDependencies")
+    {
+        let _ = names.peers.insert(entry.name.as_str())?;
+    }
     for entry in entries {
-        let position = &mut report.position;
-        for c in text.get(position.index..entry.start).unwrap_or("").chars() {
-            if c == '\n' {
-                position.line = position.line.saturating_add(1);
-                position.column = 1;
-            } else {
-                position.column = position.column.saturating_add(1);
-            }
-        }
-        position.index = entry.start;
-        match entry.kind {
-            Kind::Range | Kind::Dependency => {
-                if let Some(range) = range_of(entry.text.as_str()) {
-                    check_range(console, report, entry, Flavour::Npm, range)?;
-                }
-            }
-            Kind::Specifier => check_specifier(console, report, entry)?,
-            Kind::Mistake(message) => {
-                report.add(console, entry, Finding::new(Level::Error, message))?;
-            }
-        }
+        report.position.move_to(text, entry.start);
+        check_entry(console, report, &mut names, entry)?;
     }
     Ok(())
 }
 
-// Checks a file, or standard input for `-`; what is wrong with the file itself is reported on standard error.
-fn check_file<R: Input + Files + AllocGlobal, O: Write, E: Write>(
+// Reads a file, or standard input for `-`; what is wrong with the file itself is reported on standard error.
+fn read_file<R: Input + Files + AllocGlobal, O: Write, E: Write>(
     rt: &R,
     console: &mut Console<O, E>,
-    report: &mut Report<'_>,
-) -> Result<(), Stop> {
-    let file = report.file;
+    file: &str,
+) -> Result<String, Stop> {
     let read = if file == "-" {
         console.announce("ranges");
         let mut text = String::new(console.alloc);
@@ -422,35 +545,120 @@ fn check_file<R: Input + Files + AllocGlobal, O: Write, E: Write>(
     } else {
         fs::read_to_string(rt, file)
     };
-    let text = match read {
+    let reason = match read {
+        Ok(text) if text.is_empty() && file == "-" => "standard input is empty",
+        Ok(text) => return Ok(text),
+        Err(error) => match error.kind() {
+            ErrorKind::OutOfMemory => return Err(Stop::OutOfMemory),
+            ErrorKind::NotFound => "no such file",
+            ErrorKind::PermissionDenied => "permission denied",
+            ErrorKind::IsADirectory => "is a directory",
+            ErrorKind::InvalidData => "not valid UTF-8",
+            _ => "can't be read",
+        },
+    };
+    Err(Stop::Ended(console.complain(Shown(file), reason)))
+}
+
+// Checks a file, or standard input for `-`.
+fn check_file<R: Input + Files + AllocGlobal, O: Write, E: Write>(
+    rt: &R,
+    console: &mut Console<O, E>,
+    report: &Report<'_>,
+    file: &str,
+    settings: &[&str],
+) -> Result<Status, Stop> {
+    let text = match read_file(rt, console, file) {
         Ok(text) => text,
-        Err(error) => {
-            let reason = match error.kind() {
-                ErrorKind::OutOfMemory => return Err(Stop::OutOfMemory),
-                ErrorKind::NotFound => "no such file",
-                ErrorKind::PermissionDenied => "permission denied",
-                ErrorKind::IsADirectory => "is a directory",
-                ErrorKind::InvalidData => "not valid UTF-8",
-                _ => "can't be read",
-            };
-            let status = console.complain(Shown(file), reason);
-            report.status = report.status.worse(status);
-            return Ok(());
-        }
+        Err(Stop::Ended(status)) => return Ok(status),
+        Err(stop) => return Err(stop),
     };
     // Some programs begin UTF-8 with a byte order mark.
     let text = text.as_str();
     let text = text.strip_prefix('\u{feff}').unwrap_or(text);
     let entries = entries(console.alloc, file, text)?;
-    check_entries(console, report, text, entries.as_slice())
+    let mut report = Report { file, ..*report };
+    set_levels(console, &mut report, text, entries.as_slice(), settings)?;
+    check_entries(console, &mut report, text, entries.as_slice())?;
+    Ok(report.status)
 }
 
-/// `ranges check [FILE..]`: the ranges of each file that are invalid, or legal and surely not meant.
-pub fn check<R: Input + Files + AllocGlobal, O: Write, E: Write>(
+// Tries the settings of rules, and reports one with an unknown name or level.
+fn try_settings<O: Write, E: Write>(
+    console: &mut Console<O, E>,
+    settings: &[&str],
+) -> Result<(), Stop> {
+    let mut levels = Levels::new();
+    for setting in settings {
+        let (name, level) = setting.split_once('=').unwrap_or((*setting, ""));
+        if let Err(unknown) = levels.set(name, level) {
+            let message = format!(in console.alloc; "{unknown}")?;
+            let _ = console.complain(format_args!("--rule {}", Shown(setting)), message.as_str());
+            return Err(Stop::Ended(Status::Misused));
+        }
+    }
+    Ok(())
+}
+
+// The paths to check: of the files, and of the manifests of folders; without any, of this folder and its workspaces.
+fn paths<R: Runtime + AllocGlobal, O: Write, E: Write>(
+    rt: &R,
+    console: &mut Console<O, E>,
+    files: Option<&[&str]>,
+) -> Result<Manifests, Stop> {
+    let Some(files) = files else {
+        let found = manifests_here(rt, console)?;
+        return Ok(with_something(console, ".", found));
+    };
+    let mut all = Manifests {
+        paths: Vec::new(console.alloc),
+        status: Status::Answered,
+    };
+    for file in files {
+        let is_folder = match fs::metadata(rt, *file) {
+            Ok(data) => data.is_dir() && *file != "-",
+            Err(error) if error.kind() == ErrorKind::OutOfMemory => return Err(Stop::OutOfMemory),
+            Err(_) => false,
+        };
+        if !is_folder {
+            all.paths.push(String::from_str(console.alloc, file)?)?;
+            continue;
+        }
+        let found = manifests_in(rt, console, file)?;
+        let found = with_something(console, file, found);
+        all.status = all.status.worse(found.status);
+        for path in found.paths {
+            all.paths.push(path)?;
+        }
+    }
+    Ok(all)
+}
+
+// Reports that a folder has no manifests, if nothing was found and all of it was read.
+fn with_something<O: Write, E: Write>(
+    console: &mut Console<O, E>,
+    folder: &str,
+    found: Manifests,
+) -> Manifests {
+    if !found.paths.is_empty() || found.status != Status::Answered {
+        return found;
+    }
+    let message =
+        "no package.json, deno.json, import_map.json or pnpm-workspace.yaml in this folder";
+    Manifests {
+        status: console.complain(Shown(folder), message),
+        ..found
+    }
+}
+
+/// `ranges check [FILE..]`: the ranges of each file that are refused, or legal and probably a mistake.
+pub fn check<R: Runtime + AllocGlobal, O: Write, E: Write>(
     rt: &R,
     console: &mut Console<O, E>,
     matches: &ArgMatches<'_>,
 ) -> Result<Status, Stop> {
+    let settings = matches.get_strs("rule").unwrap_or(&[]);
+    try_settings(console, settings)?;
     let format = if matches.get_flag("json") {
         Format::Json
     } else if matches.get_flag("github") {
@@ -458,25 +666,26 @@ pub fn check<R: Input + Files + AllocGlobal, O: Write, E: Write>(
     } else {
         Format::Lines
     };
-    let mut report = Report {
+    let report = Report {
         format,
         canonical: matches.get_flag("canonical"),
+        levels: Levels::new(),
         file: "-",
-        position: START,
+        position: Position::START,
         status: Status::Answered,
         warning: if matches.get_flag("strict") {
-            Status::Nothing
+            Status::Found
         } else {
             Status::Answered
         },
     };
-    for file in matches.get_strs("FILE").unwrap_or(&["-"]) {
-        report.file = *file;
-        report.position = START;
-        check_file(rt, console, &mut report)?;
+    let Manifests { paths, mut status } = paths(rt, console, matches.get_strs("FILE"))?;
+    for path in paths.iter() {
+        let checked = check_file(rt, console, &report, path.as_str(), settings)?;
+        status = status.worse(checked);
     }
     if format == Format::Json {
         console.end_items()?;
     }
-    Ok(report.status)
+    Ok(status)
 }

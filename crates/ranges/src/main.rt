@@ -4,7 +4,8 @@
 //!
 //! The status is 0 for `yes` and for a printed result, 1 for `no` and `none` and if no version matches, 2 for a tag, 3 if an
 //! argument or a line is invalid, 4 for arguments that the program doesn't know, 5 out of memory, and 6 if standard input
-//! can't be read or standard output can't be written.
+//! can't be read or standard output can't be written. Of `check` it is 1 if it finds an error, 2 for arguments that the program doesn't know,
+//! and 3 if a file can't be read.
 #![tactic(auto)]
 
 mod advice;
@@ -13,23 +14,26 @@ mod checking;
 mod comparing;
 mod errors;
 mod explaining;
+mod findings;
 mod listed;
 mod packaged;
+mod rules;
 mod scanned;
+mod walking;
 
 use clap::ArgMatches;
 use clap::error::ErrorKind as Mistake;
 use std::env::Env;
 use std::io::{BufWriter, IsTerminal, Write};
 use std::process::ExitCode;
-use std::rt::{Files, Runtime};
+use std::rt::Runtime;
 use std::{env, io};
 use terminal::args::{Options, program};
 use terminal::console::{Console, Status, Stop, Style, Terminal};
 use terminal::shown::Shown;
 
 // Runs the command of this name, and flushes its output.
-fn answer<R: Input + Files + AllocGlobal, O: Write, E: Write>(
+fn answer<R: Runtime + AllocGlobal, O: Write, E: Write>(
     rt: &R,
     console: &mut Console<O, E>,
     name: &str,
@@ -95,7 +99,10 @@ fn run<R: Runtime + AllocGlobal, E: Write + Drop>(
                     // What can't be written to standard error is left out.
                     let _ = writeln!(err, "{}", Shown(line));
                 }
-                Ok(Status::Usage)
+                Ok(match arguments.get(1) {
+                    Some(command) if command.as_str() == "check" => Status::Misused,
+                    _ => Status::Usage,
+                })
             }
         },
     }

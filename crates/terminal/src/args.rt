@@ -11,7 +11,7 @@ const GRAMMARS: [&str; 3] = ["npm", "normal", "strict"];
 
 const STATUSES: &str = "\
 Exit status: 0 yes, or what was asked for; 1 no or none; 2 a tag; 3 an invalid argument or line; 4 unknown arguments;
-5 out of memory; 6 input can't be read or output can't be written.";
+5 out of memory; 6 input can't be read or output can't be written. check has its own (ranges check --help).";
 
 /// The options of a command; one that it doesn't have is off.
 #[derive(Clone, Copy)]
@@ -77,6 +77,8 @@ enum Form {
     Grammar,
     /// An option whose value is a range, any number of times.
     MoreRanges,
+    /// An option whose value is a rule and its level, any number of times.
+    Rule,
     /// An option whose value names two columns, which doesn't go with `--json`.
     Columns,
     /// A text.
@@ -153,6 +155,12 @@ const CANONICAL: Argument = Argument {
     help: "Print every range with its canonical form",
 };
 
+const RULE: Argument = Argument {
+    name: "rule",
+    form: Form::Rule,
+    help: "Set a rule's level: off, warn or error",
+};
+
 const STRICT: Argument = Argument {
     name: "strict",
     form: Form::Flag(None),
@@ -222,7 +230,7 @@ const VERSIONS: Argument = Argument {
 const FILES: Argument = Argument {
     name: "FILE",
     form: Form::Texts(0),
-    help: "A package.json, deno.json, import map, or a range per line; without any, or for -, standard input",
+    help: "A package.json, deno.json or import map, a range per line, a folder, or - for standard input; without any, this folder and its workspaces",
 };
 
 const PACKAGE: Argument = Argument {
@@ -277,11 +285,14 @@ const COMMANDS: [Entry; 16] = [
     Entry {
         name: "check",
         about: "Check the ranges of package.json, deno.json and import maps",
-        arguments: &[JSON, GITHUB, CANONICAL, STRICT, QUIET, FILES],
+        arguments: &[JSON, GITHUB, CANONICAL, RULE, STRICT, QUIET, FILES],
         examples: "\
 Examples:
-  ranges check package.json deno.json
-  ranges check --strict --canonical packages/*/package.json",
+  ranges check
+  ranges check --rule any-zero=off --rule no-match=error packages
+  ranges check --strict --canonical packages/*/package.json
+
+Exit status: 0 no error; 1 an error, or with --strict a warning; 2 unknown arguments; 3 a file can't be read.",
     },
     Entry {
         name: "explain",
@@ -451,6 +462,9 @@ fn command<'a>(alloc: Global, entry: &Entry) -> Result<Command<'a>, AllocError> 
                 .default_value("npm"),
             Form::MoreRanges => option(alloc, argument, Some('r'))
                 .value_name("RANGE")
+                .action(ArgAction::Append),
+            Form::Rule => option(alloc, argument, None)
+                .value_name("NAME=LEVEL")
                 .action(ArgAction::Append),
             Form::Columns => option(alloc, argument, None)
                 .value_name("KEY,PRE")

@@ -16,8 +16,12 @@ pub enum Status {
     Answered,
     /// `no` or `none`, or no version matches.
     Nothing,
+    /// `check` found what counts as an error.
+    Found,
     /// The range is a tag.
     Tag,
+    /// The program doesn't know the arguments of `check`.
+    Misused,
     /// An argument or a line is invalid, or an alternative was left out.
     Rejected,
     /// The program doesn't know the arguments.
@@ -32,8 +36,8 @@ impl Status {
     pub fn code(self) -> u8 {
         match self {
             Status::Answered => 0,
-            Status::Nothing => 1,
-            Status::Tag => 2,
+            Status::Nothing | Status::Found => 1,
+            Status::Tag | Status::Misused => 2,
             Status::Rejected => 3,
             Status::Usage => 4,
             Status::OutOfMemory => 5,

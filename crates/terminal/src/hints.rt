@@ -7,7 +7,7 @@ use semver_req::error_places::pieces::InvalidPiece;
 use std::fmt;
 
 // What package.json has in place of a range.
-const PROTOCOLS: [&str; 16] = [
+const PROTOCOLS: [&str; 23] = [
     "workspace:",
     "catalog:",
     "file:",
@@ -17,18 +17,37 @@ const PROTOCOLS: [&str; 16] = [
     "exec:",
     "npm:",
     "jsr:",
-    "git+",
     "git:",
+    "git+file:",
+    "git+ftp:",
+    "git+http:",
+    "git+https:",
+    "git+rsync:",
+    "git+ssh:",
+    "ssh:",
     "github:",
     "gitlab:",
     "bitbucket:",
     "gist:",
-    "http",
+    "http:",
+    "https:",
 ];
+
+/// What follows a protocol, in capital letters or not, if the text begins with it.
+pub fn behind_protocol<'t>(text: &'t str, protocol: &str) -> Option<&'t str> {
+    let (front, behind) = text.split_at_checked(protocol.len())?;
+    if front.eq_ignore_ascii_case(protocol) {
+        Some(behind)
+    } else {
+        None
+    }
+}
 
 /// Whether a text begins with one of package.json's protocols.
 pub fn is_protocol(text: &str) -> bool {
-    PROTOCOLS.iter().any(|protocol| text.starts_with(*protocol))
+    PROTOCOLS
+        .iter()
+        .any(|protocol| behind_protocol(text, protocol).is_some())
 }
 
 // How a text in quotes begins or ends.
@@ -440,13 +459,29 @@ fn is_nearly_latest(tag: &str) -> bool {
     }
 }
 
-/// What may be meant by a tag that looks like a typing mistake: by `latest`, or by a version.
+/// What may be meant by a tag that looks like a typing mistake: by `latest`, by a version, or by a range.
 pub fn question(tag: &str) -> Option<&'static str> {
-    if is_nearly_latest(tag) {
+    if is_nearly_latest(tag) || tag != LATEST && tag.eq_ignore_ascii_case(LATEST) {
         return Some("is `latest` meant?");
+    }
+    if matches!(tag, "undefined" | "null" | "NaN" | "true" | "false") {
+        return Some("did a script write a value in place of a range?");
+    }
+    if tag.eq_ignore_ascii_case("lts") {
+        return Some("is a range meant? Hardly any package has this tag");
+    }
+    if tag.contains(['~', '*'].as_slice()) {
+        return Some("is a range meant?");
     }
     let first = tag.chars().next()?;
     let is_digit = |c: char| c.is_ascii_digit();
+    let is_number = |text: &str| !text.is_empty() && text.chars().all(is_digit);
+    if let Some((from, to)) = tag.split_once('-')
+        && is_number(from)
+        && is_number(to)
+    {
+        return Some("is a range meant? Put spaces around its `-`");
+    }
     if first == 'V' && tag.contains(is_digit) {
         return Some("write `v`, or leave it out");
     }

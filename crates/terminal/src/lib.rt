@@ -2,10 +2,14 @@
 #![tactic(auto)]
 
 pub mod args;
+mod commented;
 pub mod console;
 pub mod hints;
 pub mod input;
 mod json;
 pub mod manifest;
+pub mod npm;
 pub mod pointing;
+pub mod sections;
 pub mod shown;
+mod yaml;

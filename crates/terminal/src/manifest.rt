@@ -1,26 +1,19 @@
-//! Where files hold version ranges: package.json, deno.json, import maps, and plain lines.
+//! What a file holds: the ranges of package.json, deno.json, import maps and plain lines.
 
+use crate::commented::without_comments;
 use crate::json::error_place;
+use crate::sections::{ITEM, Kind, Place, place_of};
+use crate::yaml::entries_of_yaml;
 use serde_json::Value;
 use std::alloc::{AllocError, Global};
+use std::collections::HashSet;
 
-/// What a text of a file should be.
-#[derive(Clone, Copy, PartialEq, Eq)]
-pub enum Kind {
-    /// A range by npm's grammar.
-    Range,
-    /// What a package manager installs: such a range, a tag or another protocol.
-    Dependency,
-    /// A specifier, of which those of npm and JSR name a package.
-    Specifier,
-    /// No text: the file should have something else here, as the message says.
-    Mistake(&'static str),
-}
-
-/// A range or a specifier of a file.
+/// A text of a file, or a mistake in it.
 #[derive(Drop)]
 pub struct Entry {
-    /// What depends on it; empty in plain lines.
+    /// The first key on the way to it; empty in plain lines.
+    pub section: &'static str,
+    /// Its key: what depends on it. Empty in plain lines.
     pub name: String,
     pub text: String,
     /// The index of its first byte in the file.
@@ -28,33 +21,17 @@ pub struct Entry {
     pub kind: Kind,
 }
 
-// What the values are that are so many objects deep in a section of the file.
-fn kind_at(section: &str, depth: usize) -> Option<Kind> {
-    match (section, depth) {
-        ("dependencies" | "devDependencies" | "peerDependencies", 1) => Some(Kind::Dependency),
-        ("optionalDependencies" | "catalog", 1) => Some(Kind::Dependency),
-        ("catalogs", 2) => Some(Kind::Dependency),
-        ("overrides" | "resolutions", 1..) => Some(Kind::Dependency),
-        ("engines", 1) => Some(Kind::Range),
-        ("imports", 1) | ("scopes", 2) => Some(Kind::Specifier),
-        (_, _) => None,
+impl Entry {
+    // What is said of the file itself.
+    fn of_file(alloc: Global, start: usize, message: &'static str) -> Entry {
+        Entry {
+            section: "",
+            name: String::new(alloc),
+            text: String::new(alloc),
+            start,
+            kind: Kind::Mistake(message),
+        }
     }
-}
-
-// Goes over JSON, and collects the values that are ranges or specifiers, and what is there in place of one.
-#[derive(Drop)]
-struct Scanner<'t> {
-    alloc: Global,
-    file: &'t str,
-    /// The keys on the way, and the empty one of the file.
-    path: Vec<String>,
-    key: Option<String>,
-    is_value: bool,
-    /// Where a text starts, behind its quote.
-    text: Option<usize>,
-    is_escaped: bool,
-    is_lockfile: bool,
-    entries: Vec<Entry>,
 }
 
 /// The text that JSON means by this part between two quotes.
@@ -70,24 +47,64 @@ pub fn unescaped(alloc: Global, raw: &str) -> Result<String, AllocError> {
     }
 }
 
+// An object or an array that isn't closed.
+#[derive(Drop)]
+struct Open {
+    is_array: bool,
+    /// The keys so far, in an object on the way to ranges.
+    keys: Option<HashSet<String>>,
+}
+
+// Goes over JSON, and collects the values that hold ranges, and what is there in place of one.
+#[derive(Drop)]
+struct Scanner<'t> {
+    alloc: Global,
+    file: &'t str,
+    open: Vec<Open>,
+    /// The keys on the way.
+    path: Vec<String>,
+    key: Option<String>,
+    /// Whether a value comes next, or is read.
+    is_value: bool,
+    /// What the text is that is read, if it is collected.
+    value: Option<(Kind, &'static str)>,
+    /// Where a text starts, behind its quote.
+    text: Option<usize>,
+    is_escaped: bool,
+    is_lockfile: bool,
+    entries: Vec<Entry>,
+}
+
 impl Scanner<'_> {
-    // The section of the next value, and how many objects deep in it the value is.
-    fn place(&self) -> (&str, usize) {
-        let section = match self.path.get(1) {
-            Some(key) => key.as_str(),
-            None => self.key.as_deref().unwrap_or(""),
+    fn is_in_array(&self) -> bool {
+        self.open.last().is_some_and(|open| open.is_array)
+    }
+
+    // What may stand where the next value is.
+    fn place(&self) -> Place {
+        let last = if self.is_in_array() {
+            ITEM
+        } else {
+            self.key.as_deref().unwrap_or("")
         };
-        (section, self.path.len().saturating_sub(1))
+        place_of(self.path.as_slice(), last)
     }
 
     // Adds an entry of the last key.
-    fn add(&mut self, raw: &str, start: usize, kind: Kind) -> Result<(), AllocError> {
+    fn add(
+        &mut self,
+        raw: &str,
+        start: usize,
+        kind: Kind,
+        section: &'static str,
+    ) -> Result<(), AllocError> {
         let name = match &self.key {
             Some(key) => String::from_str(self.alloc, key.as_str())?,
             None => String::new(self.alloc),
         };
         let text = unescaped(self.alloc, raw)?;
         let entry = Entry {
+            section,
             name,
             text,
             start,
@@ -96,48 +113,104 @@ impl Scanner<'_> {
         Ok(self.entries.push(entry)?)
     }
 
+    // Takes the first character of a value.
+    fn begin(&mut self, index: usize, c: char) -> Result<(), AllocError> {
+        self.is_value = c == '"';
+        let place = self.place();
+        self.value = None;
+        let is_there = match (c, place.text) {
+            ('"', Some(text)) => {
+                self.value = Some(text);
+                true
+            }
+            ('{', Some((Kind::Meta, section))) => {
+                self.add("", index, Kind::Meta, section)?;
+                true
+            }
+            ('{', _) => place.has_object,
+            ('[', _) => place.has_array,
+            (_, _) => false,
+        };
+        let mistake = match place.text {
+            _ if is_there || !place.is_strict => None,
+            Some((Kind::Version, _)) => Some("expected a string, such as \"1.2.3\""),
+            Some((Kind::Manager, _)) => Some("expected a string, such as \"npm@1.2.3\""),
+            Some((Kind::Level, _)) => Some("expected a string, such as \"off\""),
+            Some(_) => Some("expected a string, such as \"^1.2\""),
+            None if place.has_object => Some("expected an object"),
+            None => None,
+        };
+        match mistake {
+            Some(message) => self.add("", index, Kind::Mistake(message), ""),
+            None => Ok(()),
+        }
+    }
+
+    // Opens an object or an array.
+    fn open(&mut self, is_array: bool) -> Result<(), AllocError> {
+        let is_file = self.open.is_empty();
+        let keys = if !is_array && (is_file || self.place().has_object) {
+            Some(HashSet::new(self.alloc))
+        } else {
+            None
+        };
+        let is_item = self.is_in_array();
+        let key = match self.key.take() {
+            Some(key) => key,
+            None if is_item => String::from_str(self.alloc, ITEM)?,
+            None => String::new(self.alloc),
+        };
+        if !is_file {
+            self.path.push(key)?;
+        }
+        self.is_value = is_array;
+        Ok(self.open.push(Open { is_array, keys })?)
+    }
+
     // Takes a character outside texts.
     fn structure(&mut self, index: usize, c: char) -> Result<(), AllocError> {
-        if self.is_value && !c.is_ascii_whitespace() {
-            self.is_value = c == '"';
-            let (section, depth) = self.place();
-            let is_range_at = |depth: usize| {
-                matches!(
-                    kind_at(section, depth),
-                    Some(Kind::Range | Kind::Dependency)
-                )
-            };
-            let has_ranges = is_range_at(depth.saturating_add(1))
-                || is_range_at(depth.saturating_add(2));
-            let mistake = match c {
-                '{' if has_ranges => None,
-                '"' if is_range_at(depth) => None,
-                _ if is_range_at(depth) => Some("expected a string, such as \"^1.2\""),
-                _ if has_ranges => Some("expected an object"),
-                _ => None,
-            };
-            if let Some(message) = mistake {
-                self.add("", index, Kind::Mistake(message))?;
-            }
+        if self.is_value && !c.is_ascii_whitespace() && c != ']' {
+            self.begin(index, c)?;
         }
         match c {
             '"' => self.text = Some(index.saturating_add(1)),
             ':' => self.is_value = true,
-            '{' | '[' => {
-                let key = match self.key.take() {
-                    Some(key) => key,
-                    None => String::new(self.alloc),
-                };
-                self.path.push(key)?;
-            }
+            '{' | '[' => self.open(c == '[')?,
             '}' | ']' => {
+                let _ = self.open.pop();
                 let _ = self.path.pop();
                 self.key = None;
+                self.is_value = false;
             }
-            ',' => self.key = None,
+            ',' => {
+                self.key = None;
+                self.is_value = self.is_in_array();
+            }
             _ => (),
         }
         Ok(())
+    }
+
+    // Takes a key, which starts at this index.
+    fn take_key(&mut self, raw: &str, start: usize) -> Result<(), AllocError> {
+        let key = unescaped(self.alloc, raw)?;
+        self.is_lockfile |= self.path.is_empty() && key.as_str() == "lockfileVersion";
+        let again = String::from_str(self.alloc, key.as_str())?;
+        self.key = Some(key);
+        let is_new = match self.open.last_mut() {
+            Some(
+                Open {
+                    keys: Some(keys),
+                    ..
+                },
+            ) => keys.insert(again)?,
+            _ => true,
+        };
+        if is_new {
+            Ok(())
+        } else {
+            self.add("", start, Kind::Repeated, "")
+        }
     }
 
     // Takes the next character.
@@ -149,36 +222,39 @@ impl Scanner<'_> {
             self.is_escaped = !self.is_escaped && c == '\\';
             return Ok(());
         }
-        // A key, an item of an array, or a value ends.
+        // A key or a value ends.
         self.text = None;
         let raw = self.file.get(start..index).unwrap_or("");
         if !self.is_value {
-            let key = unescaped(self.alloc, raw)?;
-            self.is_lockfile |= self.path.len() == 1 && key.as_str() == "lockfileVersion";
-            self.key = Some(key);
-            return Ok(());
+            return self.take_key(raw, start);
         }
         self.is_value = false;
-        let (section, depth) = self.place();
-        match kind_at(section, depth) {
-            Some(kind) => self.add(raw, start, kind),
+        match self.value.take() {
+            Some((kind, section)) => self.add(raw, start, kind, section),
             None => Ok(()),
         }
     }
 }
 
-// The entries of JSON, or the one mistake that it is. A lockfile has none.
+// The entries of JSON, or the one mistake that it is.
 fn of_text(alloc: Global, file: &str) -> Result<Vec<Entry>, AllocError> {
-    let (start, message) = match error_place(alloc, file)? {
-        Some(place) => (place, "not valid JSON"),
-        None if !file.trim_start().starts_with('{') => (0, "expected an object"),
+    let mistake = match error_place(alloc, file)? {
+        Some(place) => Entry::of_file(alloc, place, "not valid JSON"),
+        None if file.trim_start().starts_with('[') => {
+            Entry::of_file(alloc, 0, "a list: expected an object")
+        }
+        None if !file.trim_start().starts_with('{') => {
+            Entry::of_file(alloc, 0, "expected an object")
+        }
         None => {
             let mut scanner = Scanner {
                 alloc,
                 file,
+                open: Vec::new(alloc),
                 path: Vec::new(alloc),
                 key: None,
                 is_value: false,
+                value: None,
                 text: None,
                 is_escaped: false,
                 is_lockfile: false,
@@ -192,93 +268,44 @@ fn of_text(alloc: Global, file: &str) -> Result<Vec<Entry>, AllocError> {
                 entries,
                 ..
             } = scanner;
-            return Ok(if is_lockfile {
-                Vec::new(alloc)
-            } else {
-                entries
-            });
+            if !is_lockfile {
+                return Ok(entries);
+            }
+            Entry::of_file(alloc, 0, LOCKFILE)
         }
-    };
-    let mistake = Entry {
-        name: String::new(alloc),
-        text: String::new(alloc),
-        start,
-        kind: Kind::Mistake(message),
     };
     Ok(vec![in alloc; mistake]?)
 }
 
-// Which part of JSON with comments.
-#[derive(Clone, Copy, PartialEq, Eq)]
-enum Part {
-    Structure,
-    /// Behind a `/`.
-    Slash,
-    LineComment,
-    BlockComment,
-    /// In a block comment, behind a `*`.
-    Star,
-    Text,
-    /// In a text, behind a `\`.
-    Escape,
-}
+const LOCKFILE: &str = "a lockfile: check the manifest that it belongs to";
 
-// JSON with comments, and commas before closing brackets, of which the bytes so far are spaces.
-#[derive(Drop)]
-struct Commented {
-    bytes: Vec<u8>,
-    part: Part,
-    /// The last comma, if only whitespace and comments follow.
-    comma: Option<usize>,
-}
+const YAML: &str = "YAML, which is read only in pnpm-workspace.yaml";
 
-impl Commented {
-    fn clear(&mut self, index: usize) {
-        if let Some(byte) = self.bytes.get_mut(index) {
-            *byte = b' ';
-        }
+// How the names of lockfiles end.
+const LOCKFILES: [&str; 4] = [".lock", "-lock.json", "-lock.yaml", "npm-shrinkwrap.json"];
+
+// What a file without JSON is by its name or its first lines, if it holds no ranges.
+fn other(name: &str, file: &str) -> Option<&'static str> {
+    if name.ends_with(".yaml") || name.ends_with(".yml") {
+        return Some(YAML);
     }
-
-    // The part behind a byte.
-    fn next(&self, byte: u8) -> Part {
-        match (self.part, byte) {
-            (Part::Structure | Part::Slash, b'"') => Part::Text,
-            (Part::Structure, b'/') => Part::Slash,
-            (Part::Slash, b'/') => Part::LineComment,
-            (Part::Slash, b'*') => Part::BlockComment,
-            (Part::LineComment, b'\n') => Part::Structure,
-            (Part::BlockComment | Part::Star, b'*') => Part::Star,
-            (Part::Star, b'/') => Part::Structure,
-            (Part::Star, _) => Part::BlockComment,
-            (Part::Text, b'"') => Part::Structure,
-            (Part::Text, b'\\') => Part::Escape,
-            (Part::Escape, _) => Part::Text,
-            (Part::Slash, _) => Part::Structure,
-            (part, _) => part,
-        }
+    let is_lock = |line: &str| {
+        let starts = ["lockfileVersion:", "__metadata:", "# yarn lockfile"];
+        starts.iter().any(|start| line.starts_with(*start))
+    };
+    if file.lines().take(10).any(is_lock) {
+        return Some(LOCKFILE);
     }
-
-    // Takes the next byte.
-    fn step(&mut self, index: usize, byte: u8) {
-        let part = self.part;
-        self.part = self.next(byte);
-        match (part, self.part, byte) {
-            (Part::Slash, Part::LineComment | Part::BlockComment, _) => {
-                self.clear(index.saturating_sub(1));
-                self.clear(index);
-            }
-            (Part::LineComment | Part::BlockComment | Part::Star, _, b'\n') => (),
-            (Part::LineComment | Part::BlockComment | Part::Star, _, _) => self.clear(index),
-            (Part::Structure, Part::Structure, b'}' | b']') => {
-                if let Some(comma) = self.comma.take() {
-                    self.clear(comma);
-                }
-            }
-            (Part::Structure, Part::Structure, b',') => self.comma = Some(index),
-            (Part::Structure, Part::Structure, b' ' | b'\t' | b'\r' | b'\n') => (),
-            (Part::Structure, Part::Structure | Part::Text, _) => self.comma = None,
-            (_, _, _) => (),
-        }
+    let mut lines = file.lines().map(|line| line.trim_end());
+    let first = lines.find(|line| !line.is_empty() && !line.starts_with('#'))?;
+    let key = first.split([':', ' '].as_slice()).next().unwrap_or("");
+    let is_key = first.contains(": ") || first.ends_with(':');
+    let is_word = !key.is_empty() && key.chars().all(|c| c.is_ascii_alphabetic());
+    let is_specifier = matches!(first, "npm:" | "jsr:");
+    if first == "---" || is_key && is_word && !is_specifier {
+        Some(YAML)
+    } else {
+        None
     }
 }
 
@@ -296,6 +323,7 @@ fn of_lines(alloc: Global, file: &str) -> Result<Vec<Entry>, AllocError> {
                 Kind::Range
             };
             let entry = Entry {
+                section: "",
                 name: String::new(alloc),
                 text: String::from_str(alloc, text)?,
                 start: start.saturating_add(indent),
@@ -310,26 +338,27 @@ fn of_lines(alloc: Global, file: &str) -> Result<Vec<Entry>, AllocError> {
 
 /// The entries of a file, in their order. JSON begins with a brace; any other file has a range on each line.
 pub fn entries(alloc: Global, path: &str, file: &str) -> Result<Vec<Entry>, AllocError> {
-    let is_json = file.trim_start().starts_with(['{', '/'].as_slice());
-    if !is_json && !path.ends_with(".json") {
-        return of_lines(alloc, file);
+    let name = path.rsplit('/').next().unwrap_or(path);
+    let front = file.trim_start();
+    if name == "pnpm-workspace.yaml" {
+        return entries_of_yaml(alloc, file);
+    }
+    if LOCKFILES.iter().any(|end| name.ends_with(*end)) {
+        return Ok(vec![in alloc; Entry::of_file(alloc, 0, LOCKFILE)]?);
+    }
+    let is_json = front.starts_with(['{', '/'].as_slice()) || name.ends_with(".json");
+    let is_list = front.starts_with('[') && error_place(alloc, file)?.is_none();
+    if !is_json && !is_list {
+        return match other(name, file) {
+            Some(message) => Ok(vec![in alloc; Entry::of_file(alloc, 0, message)]?),
+            None => of_lines(alloc, file),
+        };
     }
     // Deno's files may have comments, and standard input, of which no name is known.
-    let name = path.rsplit('/').next().unwrap_or(path);
     let may_have_comments = name.ends_with(".jsonc") || name.starts_with("deno.") || path == "-";
-    if !may_have_comments {
-        return of_text(alloc, file);
+    if may_have_comments {
+        of_text(alloc, without_comments(alloc, file)?.as_str())
+    } else {
+        of_text(alloc, file)
     }
-    let mut commented = Commented {
-        bytes: file.as_bytes().to_vec(alloc)?,
-        part: Part::Structure,
-        comma: None,
-    };
-    for (index, byte) in file.bytes().enumerate() {
-        commented.step(index, byte);
-    }
-    of_text(
-        alloc,
-        str::from_utf8(commented.bytes.as_slice()).unwrap_or(file),
-    )
 }

@@ -1,0 +1,294 @@
+//! What `ranges check` finds, and how it is printed.
+
+use crate::errors::{add_first, print_errors};
+use crate::rules::{Level, Levels, Rule};
+use answers::object::Object;
+use package_answers::errors::PackageErrors;
+use semver_req::common::values::Flavour;
+use serde_json::Value;
+use std::alloc::{AllocError, Global};
+use std::io::Write;
+use terminal::console::{Console, END, ERROR, Status, Stop, WARNING, print_line};
+use terminal::manifest::Entry;
+use terminal::sections::Kind;
+use terminal::shown::{Quoted, Shown};
+
+/// How findings are printed.
+#[derive(Clone, Copy, PartialEq, Eq)]
+pub enum Format {
+    Lines,
+    Json,
+    GitHub,
+}
+
+/// Why there is a finding.
+#[derive(Clone, Copy, PartialEq, Eq)]
+pub enum Cause {
+    /// What reads the file refuses the entry.
+    Refused,
+    Rule(Rule),
+    /// The range is as it should be, and printed with its canonical form.
+    Fine,
+}
+
+/// What was found in an entry.
+#[derive(Clone, Copy)]
+pub struct Finding<'f> {
+    pub cause: Cause,
+    pub message: &'f str,
+    /// Where the text is wrong.
+    pub errors: Option<&'f PackageErrors>,
+}
+
+impl<'f> Finding<'f> {
+    /// A finding without the places of errors.
+    pub fn new(cause: Cause, message: &'f str) -> Finding<'f> {
+        Finding {
+            cause,
+            message,
+            errors: None,
+        }
+    }
+
+    /// A finding by a rule.
+    pub fn by(rule: Rule, message: &'f str) -> Finding<'f> {
+        Finding::new(Cause::Rule(rule), message)
+    }
+
+    // The rule's name in brackets, behind a space.
+    fn ending(&self, alloc: Global) -> Result<String, AllocError> {
+        match self.cause {
+            Cause::Rule(rule) => format!(in alloc; " [{}]", rule.name()),
+            Cause::Refused | Cause::Fine => Ok(String::new(alloc)),
+        }
+    }
+}
+
+// How much a finding weighs.
+#[derive(Clone, Copy, PartialEq, Eq)]
+enum Weight {
+    Error,
+    Warning,
+    Notice,
+}
+
+impl Weight {
+    fn name(self) -> &'static str {
+        match self {
+            Weight::Error => "error",
+            Weight::Warning => "warning",
+            Weight::Notice => "notice",
+        }
+    }
+}
+
+/// A place in a file: the line and the column, counted from 1.
+#[derive(Clone, Copy)]
+pub struct Position {
+    index: usize,
+    line: usize,
+    column: usize,
+}
+
+impl Position {
+    /// The start of a file.
+    pub const START: Position = Position {
+        index: 0,
+        line: 1,
+        column: 1,
+    };
+
+    /// Moves on to this index of the file.
+    pub fn move_to(&mut self, file: &str, index: usize) {
+        for c in file.get(self.index..index).unwrap_or("").chars() {
+            if c == '\n' {
+                self.line = self.line.saturating_add(1);
+                self.column = 1;
+            } else {
+                self.column = self.column.saturating_add(1);
+            }
+        }
+        self.index = index;
+    }
+}
+
+/// The findings so far.
+#[derive(Clone, Copy)]
+pub struct Report<'r> {
+    pub format: Format,
+    /// Whether each range is printed with its canonical form.
+    pub canonical: bool,
+    pub levels: Levels,
+    pub file: &'r str,
+    pub position: Position,
+    pub status: Status,
+    /// The status of a warning.
+    pub warning: Status,
+}
+
+// A text as GitHub reads it in an annotation, where in a property `:` and `,` are escaped too.
+fn escaped(alloc: Global, text: &str, is_property: bool) -> Result<String, AllocError> {
+    let mut all = String::new(alloc);
+    for c in text.chars() {
+        match c {
+            '%' => all.push_str("%25")?,
+            ':' if is_property => all.push_str("%3A")?,
+            ',' if is_property => all.push_str("%2C")?,
+            c => all.push(c)?,
+        }
+    }
+    Ok(all)
+}
+
+// Whether the entry's text is shown.
+fn has_text(entry: &Entry) -> bool {
+    !matches!(entry.kind, Kind::Mistake(_) | Kind::Meta | Kind::Repeated)
+}
+
+// The name of an entry and its text, where there are such, the message, and the rule.
+fn line(alloc: Global, entry: &Entry, finding: Finding<'_>) -> Result<String, AllocError> {
+    let (name, text) = (Shown(entry.name.as_str()), Quoted(entry.text.as_str()));
+    let (message, ending) = (Shown(finding.message), finding.ending(alloc)?);
+    match (entry.name.is_empty(), has_text(entry)) {
+        (true, false) => format!(in alloc; "{message}{ending}"),
+        (false, false) => format!(in alloc; "{name}: {message}{ending}"),
+        (true, true) => format!(in alloc; "{text}: {message}{ending}"),
+        (false, true) => format!(in alloc; "{name}: {text}: {message}{ending}"),
+    }
+}
+
+impl Report<'_> {
+    // How much a finding weighs, if it counts.
+    fn weight(&self, cause: Cause) -> Option<Weight> {
+        match cause {
+            Cause::Refused => Some(Weight::Error),
+            Cause::Fine => Some(Weight::Notice),
+            Cause::Rule(rule) => match self.levels.of(rule) {
+                Level::Off => None,
+                Level::Warning => Some(Weight::Warning),
+                Level::Error => Some(Weight::Error),
+            },
+        }
+    }
+
+    fn json(
+        &self,
+        alloc: Global,
+        entry: &Entry,
+        finding: Finding<'_>,
+        weight: Weight,
+    ) -> Result<Value, AllocError> {
+        let key = match weight {
+            Weight::Error | Weight::Warning => "message",
+            Weight::Notice => "normal",
+        };
+        let text = if has_text(entry) {
+            Some(entry.text.as_str())
+        } else {
+            None
+        };
+        let rule = match finding.cause {
+            Cause::Rule(rule) => Some(rule.name()),
+            Cause::Refused | Cause::Fine => None,
+        };
+        let mut json = Object::new(alloc)
+            .put("column", Ok(Value::from(self.position.column)))
+            .put_text("file", Some(self.file))
+            .put_text("level", Some(weight.name()))
+            .put("line", Ok(Value::from(self.position.line)))
+            .put_text(key, Some(finding.message))
+            .put_text("name", Some(entry.name.as_str()))
+            .put_text("rule", rule)
+            .put_text("text", text);
+        if let Some(errors) = finding.errors {
+            json = add_first(alloc, json, entry.text.as_str(), errors);
+        }
+        json.into_json()
+    }
+
+    /// Counts a finding, unless its rule is off, and prints it: as JSON, as GitHub's annotation, or as a line.
+    pub fn add<O: Write, E: Write>(
+        &mut self,
+        console: &mut Console<O, E>,
+        entry: &Entry,
+        finding: Finding<'_>,
+    ) -> Result<(), Stop> {
+        let Some(weight) = self.weight(finding.cause) else {
+            return Ok(());
+        };
+        let status = match weight {
+            Weight::Error => Status::Found,
+            Weight::Warning => self.warning,
+            Weight::Notice => Status::Answered,
+        };
+        self.status = self.status.worse(status);
+        match self.format {
+            Format::Json => console.item(self.json(console.alloc, entry, finding, weight)),
+            Format::GitHub => {
+                let message = line(console.alloc, entry, finding)?;
+                let message = escaped(console.alloc, message.as_str(), false)?;
+                let file = format!(in console.alloc; "{}", Shown(self.file))?;
+                let file = escaped(console.alloc, file.as_str(), true)?;
+                let level = weight.name();
+                let Position { line, column, .. } = self.position;
+                print_line(
+                    &mut console.out,
+                    format_args!("::{level} file={file},line={line},col={column}::{message}"),
+                )
+            }
+            Format::Lines => self.print(console, entry, finding, weight),
+        }
+    }
+
+    /// Counts and prints a finding with the places of errors.
+    pub fn add_with<O: Write, E: Write>(
+        &mut self,
+        console: &mut Console<O, E>,
+        entry: &Entry,
+        cause: Cause,
+        message: &str,
+        errors: &PackageErrors,
+    ) -> Result<(), Stop> {
+        let finding = Finding {
+            cause,
+            message,
+            errors: Some(errors),
+        };
+        self.add(console, entry, finding)
+    }
+
+    // Prints a finding as a line, and where the text is wrong.
+    fn print<O: Write, E: Write>(
+        &self,
+        console: &mut Console<O, E>,
+        entry: &Entry,
+        finding: Finding<'_>,
+        weight: Weight,
+    ) -> Result<(), Stop> {
+        let message = line(console.alloc, entry, finding)?;
+        let style = console.terminal.out;
+        let start = match weight {
+            Weight::Error => style.code(ERROR),
+            Weight::Warning | Weight::Notice => style.code(WARNING),
+        };
+        let (file, end) = (Shown(self.file), style.code(END));
+        let Position { line, column, .. } = self.position;
+        write!(console.out, "{file}:{line}:{column}: ")?;
+        if weight != Weight::Notice {
+            write!(console.out, "{start}{}{end}: ", weight.name())?;
+        }
+        print_line(&mut console.out, message.as_str())?;
+        match finding.errors {
+            Some(errors) => {
+                let grammar = match entry.kind {
+                    Kind::Specifier => Some(Flavour::Specifier),
+                    Kind::Version | Kind::Manager => None,
+                    _ => Some(Flavour::Npm),
+                };
+                let text = entry.text.as_str();
+                print_errors(&mut console.out, style, text, errors, grammar)
+            }
+            None => Ok(()),
+        }
+    }
+}

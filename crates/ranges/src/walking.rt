@@ -1,0 +1,268 @@
+//! The manifests of folders and of workspaces.
+
+use std::alloc::{AllocError, Global};
+use std::io::{ErrorKind, Write};
+use std::rt::Runtime;
+use std::{fs, io};
+use terminal::console::{Console, Status, Stop};
+use terminal::manifest::entries;
+use terminal::sections::Kind;
+use terminal::shown::Shown;
+
+// The names of manifests, in their order.
+const NAMES: [&str; 5] = [
+    "deno.json",
+    "deno.jsonc",
+    "import_map.json",
+    "package.json",
+    "pnpm-workspace.yaml",
+];
+
+// What a folder holds, by paths.
+#[derive(Drop)]
+struct Folder {
+    manifests: Vec<String>,
+    folders: Vec<String>,
+}
+
+/// What was found in folders.
+#[derive(Drop)]
+pub struct Manifests {
+    /// The paths of manifests.
+    pub paths: Vec<String>,
+    /// The status of what can't be read, or of nothing.
+    pub status: Status,
+}
+
+// The path of a name in a folder; that of this folder is empty.
+fn joined(alloc: Global, folder: &str, name: &str) -> Result<String, AllocError> {
+    if folder.is_empty() || folder.ends_with('/') {
+        format!(in alloc; "{folder}{name}")
+    } else {
+        format!(in alloc; "{folder}/{name}")
+    }
+}
+
+// Lists a folder, by the order of names.
+fn list<R: Runtime + AllocGlobal>(rt: &R, folder: &str) -> io::Result<Folder> {
+    let alloc = rt.alloc();
+    let mut held = Folder {
+        manifests: Vec::new(alloc),
+        folders: Vec::new(alloc),
+    };
+    let path = if folder.is_empty() { "." } else { folder };
+    for entry in fs::read_dir(rt, path)? {
+        let entry = match entry {
+            Ok(entry) => entry,
+            // Its name isn't valid UTF-8, so it's no manifest.
+            Err(error) if error.kind() == ErrorKind::InvalidFilename => continue,
+            Err(error) => return Err(error),
+        };
+        let name = entry.file_name();
+        let is_manifest = NAMES.contains(&name);
+        if matches!(name, "node_modules" | ".git") {
+            continue;
+        }
+        let is_folder = entry.file_type()?.is_dir();
+        if is_folder {
+            held.folders.push(joined(alloc, folder, name)?)?;
+        } else if is_manifest {
+            held.manifests.push(joined(alloc, folder, name)?)?;
+        }
+    }
+    held.manifests.sort()?;
+    held.folders.sort()?;
+    Ok(held)
+}
+
+// Reports that a folder can't be read.
+fn complain<O: Write, E: Write>(
+    console: &mut Console<O, E>,
+    folder: &str,
+    error: &io::Error,
+) -> Result<Status, Stop> {
+    let reason = match error.kind() {
+        ErrorKind::OutOfMemory => return Err(Stop::OutOfMemory),
+        ErrorKind::PermissionDenied => "permission denied",
+        _ => "can't be read",
+    };
+    let folder = if folder.is_empty() { "." } else { folder };
+    Ok(console.complain(Shown(folder), reason))
+}
+
+/// Finds the manifests in a folder and in those below it, but in none named `node_modules` or `.git`. The folder's own come first.
+pub fn manifests_in<R: Runtime + AllocGlobal, O: Write, E: Write>(
+    rt: &R,
+    console: &mut Console<O, E>,
+    folder: &str,
+) -> Result<Manifests, Stop> {
+    let alloc = console.alloc;
+    let mut found = Manifests {
+        paths: Vec::new(alloc),
+        status: Status::Answered,
+    };
+    let mut waiting = vec![in alloc; String::from_str(alloc, folder)?]?;
+    for _ in 0..u64::MAX {
+        let Some(folder) = waiting.pop() else {
+            break;
+        };
+        match list(rt, folder.as_str()) {
+            Ok(
+                Folder {
+                    manifests,
+                    mut folders,
+                },
+            ) => {
+                for path in manifests {
+                    found.paths.push(path)?;
+                }
+                for _ in 0..folders.len() {
+                    if let Some(last) = folders.pop() {
+                        waiting.push(last)?;
+                    }
+                }
+            }
+            Err(error) => {
+                let status = complain(console, folder.as_str(), &error)?;
+                found.status = found.status.worse(status);
+            }
+        }
+    }
+    Ok(found)
+}
+
+// ---- workspaces
+
+// Whether a name matches a pattern, in which `*` stands for any text.
+fn matches_name(pattern: &str, name: &str) -> bool {
+    let Some((front, rest)) = pattern.split_once('*') else {
+        return pattern == name;
+    };
+    let (middle, end) = rest.rsplit_once('*').unwrap_or(("", rest));
+    let mut left = name
+        .strip_prefix(front)
+        .and_then(|name| name.strip_suffix(end));
+    for part in middle.split('*') {
+        left = match left {
+            Some(text) => match text.split_once(part) {
+                Some((_, behind)) => Some(behind),
+                None => None,
+            },
+            None => None,
+        };
+    }
+    left.is_some()
+}
+
+// Whether the names of a path match a pattern, in which `**` stands for any number of names.
+fn matches_path(pattern: &[&str], names: &[&str]) -> bool {
+    let (mut at, mut taken) = (0usize, 0usize);
+    // Where the pattern goes on behind the last `**`, and the first name that it could take there.
+    let mut again = None;
+    for _ in 0..u64::MAX {
+        match (pattern.get(at), names.get(taken)) {
+            (None, None) => return true,
+            (Some(part), _) if *part == "**" => {
+                at = at.saturating_add(1);
+                again = Some((at, taken));
+            }
+            (Some(part), Some(name)) if matches_name(part, name) => {
+                at = at.saturating_add(1);
+                taken = taken.saturating_add(1);
+            }
+            (_, _) => match again {
+                Some((behind, first)) if first < names.len() => {
+                    at = behind;
+                    taken = first.saturating_add(1);
+                    again = Some((at, taken));
+                }
+                _ => return false,
+            },
+        }
+    }
+    false
+}
+
+// The names of a path.
+fn names_of<'p>(alloc: Global, path: &'p str) -> Result<Vec<&'p str>, AllocError> {
+    let mut names = Vec::new(alloc);
+    for name in path.split('/') {
+        if !matches!(name, "" | ".") {
+            names.push(name)?;
+        }
+    }
+    Ok(names)
+}
+
+// Whether a folder is a workspace by these patterns; one behind `!` leaves folders out.
+fn is_workspace(alloc: Global, patterns: &[String], folder: &str) -> Result<bool, AllocError> {
+    let names = names_of(alloc, folder)?;
+    let mut is_in = false;
+    for pattern in patterns {
+        let pattern = pattern.as_str();
+        let bare = pattern.strip_prefix('!');
+        let parts = names_of(alloc, bare.unwrap_or(pattern))?;
+        if matches_path(parts.as_slice(), names.as_slice()) {
+            is_in = bare.is_none();
+        }
+    }
+    Ok(is_in)
+}
+
+// The patterns of workspaces that a manifest names; one that can't be read names none.
+fn patterns_of<R: Runtime + AllocGlobal>(rt: &R, path: &str) -> Result<Vec<String>, Stop> {
+    let alloc = rt.alloc();
+    let mut patterns = Vec::new(alloc);
+    let text = match fs::read_to_string(rt, path) {
+        Ok(text) => text,
+        Err(error) if error.kind() == ErrorKind::OutOfMemory => return Err(Stop::OutOfMemory),
+        Err(_) => return Ok(patterns),
+    };
+    for entry in entries(alloc, path, text.as_str())? {
+        if entry.kind == Kind::Workspace {
+            patterns.push(entry.text)?;
+        }
+    }
+    Ok(patterns)
+}
+
+/// Finds the manifests of this folder, and those of its workspaces.
+pub fn manifests_here<R: Runtime + AllocGlobal, O: Write, E: Write>(
+    rt: &R,
+    console: &mut Console<O, E>,
+) -> Result<Manifests, Stop> {
+    let alloc = console.alloc;
+    let mut found = Manifests {
+        paths: match list(rt, "") {
+            Ok(Folder { manifests, .. }) => manifests,
+            Err(error) => {
+                return Ok(Manifests {
+                    paths: Vec::new(alloc),
+                    status: complain(console, "", &error)?,
+                });
+            }
+        },
+        status: Status::Answered,
+    };
+    let mut patterns = Vec::new(alloc);
+    for path in found.paths.iter() {
+        for pattern in patterns_of(rt, path.as_str())? {
+            patterns.push(pattern)?;
+        }
+    }
+    if patterns.is_empty() {
+        return Ok(found);
+    }
+    let Manifests { paths, status } = manifests_in(rt, console, "")?;
+    found.status = status;
+    for path in paths {
+        let is_member = match path.as_str().rsplit_once('/') {
+            Some((folder, _)) => is_workspace(alloc, patterns.as_slice(), folder)?,
+            None => false,
+        };
+        if is_member {
+            found.paths.push(path)?;
+        }
+    }
+    Ok(found)
+}

@@ -1,0 +1,443 @@
+//! What npm makes of the text of a dependency: where it comes from, and how its range is read, leniently. These rules are npm's own, and
+//! tested alone.
+
+use crate::hints::{behind_protocol, is_protocol};
+
+/// Where a dependency comes from.
+#[derive(Clone, Copy)]
+pub enum Source<'t> {
+    /// A registry: this range or tag, which ends the text.
+    Registry(&'t str),
+    /// A path, a URL, or what another protocol names.
+    Elsewhere,
+    /// A path or a repository that looks like a range, and what it is.
+    Odd(&'static str),
+    /// Nowhere, as the message says.
+    Refused(&'static str),
+}
+
+/// What npm makes of a range or a tag.
+#[derive(Clone, Copy, PartialEq, Eq)]
+pub enum Reading {
+    Range,
+    Tag,
+    /// A number is larger than npm's numbers are, or a version longer.
+    TooLarge,
+    Refused,
+}
+
+/// A range or a tag as npm reads it.
+#[derive(Clone, Copy)]
+pub struct Read<'t> {
+    pub reading: Reading,
+    /// The first alternative that npm leaves out.
+    pub dropped: Option<&'t str>,
+    /// The first word that npm ignores in an alternative that it keeps.
+    pub ignored: Option<&'t str>,
+}
+
+// ---- names and places
+
+// Whether the text stays as it is in a URL.
+fn is_url_text(text: &str) -> bool {
+    let marks = ['-', '_', '.', '!', '~', '*', '\'', '(', ')'].as_slice();
+    text.chars()
+        .all(|c| c.is_ascii_alphanumeric() || marks.contains(&c))
+}
+
+// Whether a package may have this name.
+fn is_package_name(text: &str) -> bool {
+    let (scope, name) = match text.strip_prefix('@') {
+        Some(scoped) => scoped.split_once('/').unwrap_or(("", "")),
+        None => ("scope", text),
+    };
+    let is_reserved = name.eq_ignore_ascii_case("node_modules")
+        || name.eq_ignore_ascii_case("favicon.ico");
+    let is_hidden = text.starts_with(['.', '_'].as_slice());
+    let is_there = !scope.is_empty() && !name.is_empty();
+    is_there && is_url_text(scope) && is_url_text(name) && !is_reserved && !is_hidden
+}
+
+// Whether the text is a path by how it begins, or refers to another override.
+fn is_path(text: &str) -> bool {
+    let mut chars = text.chars();
+    match (chars.next(), chars.next()) {
+        (Some('.' | '/' | '$'), _) | (Some('~'), Some('/')) => true,
+        (Some(drive), Some(':')) => drive.is_ascii_alphabetic(),
+        (_, _) => false,
+    }
+}
+
+// Whether the text is the name of an archive.
+fn is_archive(text: &str) -> bool {
+    let ends_with = |end: &str| match text.len().checked_sub(end.len()) {
+        Some(start) => text
+            .get(start..)
+            .is_some_and(|it| it.eq_ignore_ascii_case(end)),
+        None => false,
+    };
+    ends_with(".tgz") || ends_with(".tar.gz") || ends_with(".tar")
+}
+
+// Whether the text begins as a URL does, with a protocol.
+fn has_protocol(text: &str) -> bool {
+    match text.strip_prefix("git+").unwrap_or(text).split_once(':') {
+        Some((name, _)) => !name.is_empty() && name.chars().all(|c| c.is_ascii_alphabetic()),
+        None => false,
+    }
+}
+
+// What follows the `@` behind a name, whose scope begins with `@`, too.
+fn behind_name(text: &str) -> Option<&str> {
+    let name = text.strip_prefix('@').unwrap_or(text);
+    let (_, range) = name.rsplit_once('@')?;
+    Some(range)
+}
+
+// Whether a text with a `/` looks like a range: it begins as one, with an operator or with numbers.
+fn looks_like_range(text: &str) -> bool {
+    let front = text.split(['/', ' '].as_slice()).next().unwrap_or("");
+    let is_numbers = front.contains('.') && front.chars().all(|c| c.is_ascii_digit() || c == '.');
+    is_numbers || text.starts_with(['^', '~', '<', '>', '=', '*'].as_slice())
+}
+
+// What npm makes of what follows `npm:`, a name and a range or a tag.
+fn of_alias(alias: &str) -> Source<'_> {
+    let name_end = match alias.strip_prefix('@') {
+        Some(scoped) => scoped.find('@').map(|place| place.saturating_add(1)),
+        None => alias.find('@'),
+    };
+    let (name, range) = match name_end {
+        Some(end) => {
+            let (name, range) = alias.split_at_checked(end).unwrap_or((alias, ""));
+            (name, range.strip_prefix('@').unwrap_or(range))
+        }
+        None if alias.is_empty() || is_package_name(alias) => return Source::Elsewhere,
+        // Without a name this is a range.
+        None => (alias, alias),
+    };
+    let names_no_range = is_path(range) || has_protocol(range) || range.contains('/');
+    let is_path = name.contains('/') && !name.starts_with('@');
+    if is_path || names_no_range || is_archive(range) {
+        Source::Refused("npm refuses it: an alias takes the range or the tag of a package")
+    } else if name_end.is_none() || is_package_name(name) {
+        Source::Registry(range)
+    } else if read_range(range).reading == Reading::Refused {
+        Source::Registry(range)
+    } else {
+        Source::Refused("npm refuses it: no package has such a name")
+    }
+}
+
+/// Where a dependency comes from, by its text. The protocols of other package managers are known as well.
+pub fn source_of(text: &str) -> Source<'_> {
+    if is_path(text) {
+        return Source::Elsewhere;
+    }
+    if let Some(alias) = behind_protocol(text, "npm:") {
+        return of_alias(alias);
+    }
+    let own = behind_protocol(text, "jsr:");
+    if let Some(range) = own.or(behind_protocol(text, "workspace:")) {
+        return match range {
+            "^" | "~" => Source::Elsewhere,
+            _ if is_path(range) => Source::Elsewhere,
+            _ if range.contains(['@', '/'].as_slice()) => match behind_name(range) {
+                Some(range) => Source::Registry(range),
+                None => Source::Elsewhere,
+            },
+            _ => Source::Registry(range),
+        };
+    }
+    if let Some((_, range)) = text.rsplit_once("#semver:") {
+        return Source::Registry(range);
+    }
+    if is_protocol(text) {
+        return Source::Elsewhere;
+    }
+    if has_protocol(text) {
+        return Source::Refused("no package manager knows this protocol");
+    }
+    if is_archive(text) {
+        return Source::Elsewhere;
+    }
+    match text.split_once('/') {
+        None => Source::Registry(text),
+        Some(_) if !looks_like_range(text) => Source::Elsewhere,
+        Some((_, rest)) if rest.contains('/') || text.contains(' ') || rest.is_empty() => {
+            Source::Odd("npm reads it as a folder")
+        }
+        Some(_) => Source::Odd("npm reads it as a repository of GitHub"),
+    }
+}
+
+// ---- ranges
+
+// npm's numbers go up to this one.
+const LARGEST: u64 = 9_007_199_254_740_991;
+
+// A longer version is none.
+const LONG: usize = 256;
+
+// What npm makes of a word of an alternative.
+#[derive(Clone, Copy, PartialEq, Eq)]
+enum Word {
+    Comparator,
+    /// A comparator with a number that is too large, or a version that is too long.
+    TooLarge,
+    Ignored,
+}
+
+fn is_wildcard(text: &str) -> bool {
+    matches!(text, "x" | "X" | "*")
+}
+
+fn is_number(text: &str) -> bool {
+    !text.is_empty() && text.chars().all(|c| c.is_ascii_digit())
+}
+
+// Whether the number is too large, or the one behind it, where that ends the range.
+fn is_large(digits: &str, is_stepped: bool) -> bool {
+    match digits.parse::<u64>() {
+        Ok(number) => number > LARGEST || is_stepped && number == LARGEST,
+        Err(_) => is_number(digits),
+    }
+}
+
+// Whether the text is identifiers with a `.` between two.
+fn are_identifiers(text: &str) -> bool {
+    text.split('.').all(|part| {
+        !part.is_empty() && part.chars().all(|c| c.is_ascii_alphanumeric() || c == '-')
+    })
+}
+
+// Whether a pre-release, whose `-` may be missing, and a build may be this text.
+fn ends_version(text: &str) -> bool {
+    match text.split_once('+') {
+        Some((pre, build)) => (pre.is_empty() || are_identifiers(pre)) && are_identifiers(build),
+        None => text.is_empty() || are_identifiers(text),
+    }
+}
+
+// What may stand for a version.
+#[derive(Clone, Copy, PartialEq, Eq)]
+enum Form {
+    Whole,
+    /// It may lack numbers, or have wildcards.
+    Partial,
+    /// The same behind a `^`.
+    Caret,
+}
+
+// What npm makes of a version in this form.
+fn version(text: &str, form: Form) -> Word {
+    let is_whole = form == Form::Whole;
+    let text = text.trim_start_matches(['v', '='].as_slice());
+    let (major, rest) = match text.split_once('.') {
+        Some((major, rest)) => (major, Some(rest)),
+        None => (text, None),
+    };
+    let (minor, rest) = match rest.and_then(|rest| rest.split_once('.')) {
+        Some((minor, rest)) => (Some(minor), Some(rest)),
+        None => (rest, None),
+    };
+    let is_part = |part: &str| is_number(part) || !is_whole && is_wildcard(part);
+    if !is_part(major) || minor.is_some_and(|minor| !is_part(minor)) {
+        return Word::Ignored;
+    }
+    let Some(rest) = rest else {
+        let is_caret = form == Form::Caret;
+        let is_too_large = is_large(major, is_caret || minor.is_none())
+            || minor.is_some_and(|minor| is_large(minor, !is_caret));
+        return match (is_whole, is_too_large) {
+            (true, _) => Word::Ignored,
+            (false, true) => Word::TooLarge,
+            (false, false) => Word::Comparator,
+        };
+    };
+    // Digits behind the first one may be of the patch version or of a pre-release.
+    let is_patch = |c: char| c.is_ascii_digit() || !is_whole && matches!(c, 'x' | 'X' | '*');
+    match rest.strip_prefix(is_patch) {
+        Some(behind) if ends_version(behind) => (),
+        _ => return Word::Ignored,
+    }
+    let patch_end = rest.find(|c: char| !c.is_ascii_digit());
+    let patch = rest.get(..patch_end.unwrap_or(rest.len())).unwrap_or("");
+    let is_too_large = is_large(major, form == Form::Caret)
+        || minor.is_some_and(|minor| is_large(minor, false))
+        || is_large(patch, false);
+    if is_too_large || text.split('+').next().unwrap_or("").len() > LONG {
+        Word::TooLarge
+    } else {
+        Word::Comparator
+    }
+}
+
+// The text behind `<`, `<=`, `>`, `>=`, `=` or nothing.
+fn behind_operator(text: &str) -> &str {
+    let text = text.strip_prefix(['<', '>'].as_slice()).unwrap_or(text);
+    text.strip_prefix('=').unwrap_or(text)
+}
+
+// What npm makes of a word behind an operator that stands alone, or behind nothing.
+fn word_of(operator: &str, word: &str) -> Word {
+    let (is_tilde, bare) = match operator {
+        "^" => return version(word, Form::Caret),
+        "~" | "~>" => (true, word),
+        "" => match (word.strip_prefix('^'), word.strip_prefix('~')) {
+            (Some(bare), _) => return version(bare, Form::Caret),
+            (_, Some(bare)) => (true, bare),
+            (None, None) => (false, behind_operator(word)),
+        },
+        _ => (false, word),
+    };
+    if is_tilde {
+        return version(bare.strip_prefix('>').unwrap_or(bare), Form::Partial);
+    }
+    let found = version(bare, Form::Partial);
+    if found != Word::Ignored {
+        return found;
+    }
+    // npm drops the first `*` of any other word, with the operator in front of it.
+    match bare.split_once('*') {
+        Some((before, "")) if behind_operator(before).is_empty() => Word::Comparator,
+        Some(("", behind)) => version(behind_operator(behind), Form::Whole),
+        Some((before, "")) => {
+            let before = before.strip_suffix('=').unwrap_or(before);
+            let before = before.strip_suffix(['<', '>'].as_slice()).unwrap_or(before);
+            version(before, Form::Whole)
+        }
+        _ => Word::Ignored,
+    }
+}
+
+// What stands in front of a partial version.
+fn is_sign(c: char) -> bool {
+    matches!(c, '^' | '~' | '<' | '>' | '=' | 'v')
+}
+
+// Whether the word is an operator that npm joins with the version behind it.
+fn is_operator(word: &str) -> bool {
+    matches!(word, "<" | "<=" | ">" | ">=" | "=" | "^" | "~" | "~>")
+}
+
+// Whether npm joins an operator with this word.
+fn is_joined(operator: &str, word: &str) -> bool {
+    matches!(operator, "^" | "~" | "~>")
+        || word.starts_with(|c: char| c.is_ascii_digit() || "vxX*=".contains(c))
+}
+
+// An alternative as npm reads it.
+#[derive(Clone, Copy)]
+struct Alternative<'t> {
+    is_kept: bool,
+    is_too_large: bool,
+    ignored: Option<&'t str>,
+}
+
+impl<'t> Alternative<'t> {
+    fn take(&mut self, text: &'t str, word: Word) {
+        match word {
+            Word::Comparator => self.is_kept = true,
+            Word::TooLarge => self.is_too_large = true,
+            Word::Ignored => self.ignored = self.ignored.or(Some(text)),
+        }
+    }
+}
+
+fn alternative_of(text: &str) -> Alternative<'_> {
+    let mut all = Alternative {
+        is_kept: text.trim().is_empty(),
+        is_too_large: false,
+        ignored: None,
+    };
+    if let Some((from, to)) = text.trim().split_once(" - ") {
+        let from = version(from.trim(), Form::Partial);
+        let to = version(to.trim(), Form::Partial);
+        if from != Word::Ignored && to != Word::Ignored {
+            all.take("", from);
+            all.take("", to);
+            return all;
+        }
+    }
+    let mut operator = None;
+    for next in text.split_whitespace() {
+        if operator == Some("~") && next == ">" {
+            operator = Some("~>");
+            continue;
+        }
+        match operator.take() {
+            Some(operator) if is_joined(operator, next) => {
+                all.take(next, word_of(operator, next));
+                continue;
+            }
+            Some(operator) => all.take(operator, Word::Ignored),
+            None => (),
+        }
+        if is_operator(next) {
+            operator = Some(next);
+        } else {
+            all.take(next, word_of("", next));
+        }
+    }
+    if let Some(operator) = operator {
+        all.take(operator, Word::Ignored);
+    }
+    all
+}
+
+/// How npm reads a range or a tag.
+pub fn read_range(text: &str) -> Read<'_> {
+    let mut read = Read {
+        reading: Reading::Refused,
+        dropped: None,
+        ignored: None,
+    };
+    let mut is_too_large = false;
+    for part in text.split("||") {
+        let alternative = alternative_of(part);
+        is_too_large |= alternative.is_too_large;
+        if alternative.is_kept {
+            read.reading = Reading::Range;
+            read.ignored = read.ignored.or(alternative.ignored);
+        } else {
+            read.dropped = read.dropped.or(Some(part.trim()));
+        }
+    }
+    if is_too_large || read.reading == Reading::Refused {
+        read.reading = if is_url_text(text.trim()) {
+            Reading::Tag
+        } else if is_too_large {
+            Reading::TooLarge
+        } else {
+            Reading::Refused
+        };
+    }
+    read
+}
+
+/// A comparator with a number behind a wildcard, which npm drops, and what npm reads in its place.
+pub fn number_behind_wildcard(text: &str) -> Option<(&str, &str)> {
+    for word in text.split_whitespace() {
+        let (mut start, mut wildcard_end) = (0usize, None);
+        for part in word.split('.') {
+            let number = part.split(['-', '+'].as_slice()).next().unwrap_or("");
+            let end = start.saturating_add(part.len());
+            match wildcard_end {
+                Some(end) if is_number(number) => return Some((word, word.get(..end)?)),
+                None if is_wildcard(part.trim_start_matches(is_sign)) => wildcard_end = Some(end),
+                _ => (),
+            }
+            if number.len() < part.len() {
+                break;
+            }
+            start = end.saturating_add(1);
+        }
+    }
+    None
+}
+
+/// Whether npm takes a text as a version.
+pub fn is_version(text: &str) -> bool {
+    version(text.trim(), Form::Whole) == Word::Comparator
+}

@@ -1,0 +1,132 @@
+//! Which values of a manifest hold ranges.
+
+/// What the text of a file should be.
+#[derive(Clone, Copy, PartialEq, Eq)]
+pub enum Kind {
+    /// A range by npm's grammar.
+    Range,
+    /// What a package manager installs: such a range, a tag or another protocol.
+    Dependency,
+    /// A specifier, of which those of npm and JSR name a package.
+    Specifier,
+    /// A version.
+    Version,
+    /// The name of a package manager, and its version.
+    Manager,
+    /// What is said of a peer dependency beside its range.
+    Meta,
+    /// A pattern of the folders of workspaces.
+    Workspace,
+    /// The level of a rule.
+    Level,
+    /// A key that stands in its object before.
+    Repeated,
+    /// Something else, as the message says.
+    Mistake(&'static str),
+}
+
+// Values at one place: the keys on the way, where `*` is any key, `[]` an item of an array, and `**`, at the end, one or more keys; what
+// they are; and how many keys down anything else is a mistake.
+#[derive(Clone, Copy)]
+struct Section(&'static [&'static str], Kind, usize);
+
+// Anything else is passed over.
+const NEVER: usize = 100;
+
+const SECTIONS: [Section; 28] = [
+    Section(&["dependencies", "*"], Kind::Dependency, 1),
+    Section(&["devDependencies", "*"], Kind::Dependency, 1),
+    Section(&["peerDependencies", "*"], Kind::Dependency, 1),
+    Section(&["optionalDependencies", "*"], Kind::Dependency, 1),
+    Section(&["peerDependenciesMeta", "*"], Kind::Meta, NEVER),
+    Section(&["overrides", "**"], Kind::Dependency, 1),
+    Section(&["resolutions", "**"], Kind::Dependency, 1),
+    Section(&["pnpm", "overrides", "*"], Kind::Dependency, 2),
+    Section(&["catalog", "*"], Kind::Dependency, 1),
+    Section(&["catalogs", "*", "*"], Kind::Dependency, 1),
+    Section(&["workspaces", "catalog", "*"], Kind::Dependency, 2),
+    Section(&["workspaces", "catalogs", "*", "*"], Kind::Dependency, 2),
+    Section(&["engines", "*"], Kind::Range, 1),
+    Section(&["devEngines", "*", "version"], Kind::Range, 3),
+    Section(&["devEngines", "*", "[]", "version"], Kind::Range, 4),
+    Section(&["packageManager"], Kind::Manager, 1),
+    Section(&["version"], Kind::Version, 1),
+    Section(&["imports", "*"], Kind::Specifier, NEVER),
+    Section(&["scopes", "*", "*"], Kind::Specifier, NEVER),
+    Section(&["workspaces", "[]"], Kind::Workspace, NEVER),
+    Section(&["workspaces", "packages", "[]"], Kind::Workspace, NEVER),
+    Section(&["workspace", "[]"], Kind::Workspace, NEVER),
+    Section(&["workspace", "members", "[]"], Kind::Workspace, NEVER),
+    Section(&["workspace", "catalog", "*"], Kind::Dependency, 2),
+    Section(&["workspace", "catalogs", "*", "*"], Kind::Dependency, 2),
+    Section(&["packages", "[]"], Kind::Workspace, NEVER),
+    Section(&["ranges", "rules", "*"], Kind::Level, 2),
+    Section(
+        &["pnpm", "peerDependencyRules", "allowedVersions", "*"],
+        Kind::Dependency,
+        3,
+    ),
+];
+
+/// What may stand at a place of a file.
+#[derive(Clone, Copy)]
+pub struct Place {
+    /// What a text is there, and the first key on the way.
+    pub text: Option<(Kind, &'static str)>,
+    pub has_object: bool,
+    pub has_array: bool,
+    /// Whether anything else is a mistake.
+    pub is_strict: bool,
+}
+
+/// The key of an item of an array.
+pub const ITEM: &str = "[]";
+
+impl Section {
+    // Adds what the section says of the place with these keys on the way.
+    fn add(&self, place: &mut Place, path: &[String], last: &str) {
+        let Section(keys, kind, strict) = *self;
+        let mut wanted = keys.iter().copied();
+        let mut is_deep = false;
+        let depth = path.len().saturating_add(1);
+        for place in 0..depth {
+            let key = match path.get(place) {
+                Some(key) => key.as_str(),
+                None => last,
+            };
+            let want = match wanted.next() {
+                Some(want) => want,
+                None if is_deep => "**",
+                None => return,
+            };
+            is_deep = want == "**";
+            let is_any = (is_deep || want == "*") && key != ITEM;
+            if !is_any && want != key {
+                return;
+            }
+        }
+        place.is_strict |= depth >= strict;
+        match wanted.next() {
+            Some(ITEM) => place.has_array = true,
+            Some(_) => place.has_object = true,
+            None => {
+                place.text = Some((kind, keys.first().copied().unwrap_or("")));
+                place.has_object |= is_deep;
+            }
+        }
+    }
+}
+
+/// What may stand at the place with these keys on the way.
+pub fn place_of(path: &[String], last: &str) -> Place {
+    let mut place = Place {
+        text: None,
+        has_object: false,
+        has_array: false,
+        is_strict: false,
+    };
+    for section in &SECTIONS {
+        section.add(&mut place, path, last);
+    }
+    place
+}
