@@ -1,0 +1,48 @@
+// What npm makes of dependencies and of manifests, by its own modules, in the folder that the argument names. Standard input is a JSON
+// object of two lists of texts, `specifiers` and `manifests`; the answers come in the same form, beside the modules' versions.
+import { readFileSync } from 'node:fs'
+import { createRequire } from 'node:module'
+
+const require = createRequire(process.argv[2] + '/')
+const npa = require('npm-package-arg')
+const semver = require('semver')
+const SECTIONS = ['dependencies', 'devDependencies', 'peerDependencies', 'optionalDependencies']
+
+// The type of a dependency with this text, or `refused`. A range of a repository's tags is one that semver refuses, or not.
+function typeOf(name, text) {
+  try {
+    const found = npa.resolve(name, text, '/tmp')
+    return found.gitRange && semver.validRange(found.gitRange, true) === null ? 'refused' : found.type
+  } catch {
+    return 'refused'
+  }
+}
+
+// The names and texts of overrides, one in another.
+function* overridden(held) {
+  for (const [name, text] of Object.entries(held)) {
+    if (typeof text === 'object') yield* overridden(text)
+    else if (!text.startsWith('$')) yield [name === '.' ? 'p' : name.split('@')[0], text]
+  }
+}
+
+function isRefused(text) {
+  let manifest
+  try {
+    manifest = JSON.parse(text)
+  } catch {
+    return true
+  }
+  if (Array.isArray(manifest)) return true
+  const asked = SECTIONS.flatMap((section) => Object.entries(manifest[section] ?? {}))
+  const isOdd = manifest.version && semver.valid(manifest.version.trim(), true) === null
+  return Boolean(isOdd) || [...asked, ...overridden(manifest.overrides ?? {})].some(([name, text]) => typeOf(name, text) === 'refused')
+}
+
+const { specifiers, manifests } = JSON.parse(readFileSync(0, 'utf8'))
+const versions = Object.fromEntries(['npm-package-arg', 'semver'].map((name) => [name, require(`${name}/package.json`).version]))
+console.log(JSON.stringify({
+  versions,
+  specifiers: specifiers.map((text) => typeOf('p', text)),
+  manifests: manifests.map((text) => (isRefused(text) ? 'refused' : 'accepted')),
+}))

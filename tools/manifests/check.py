@@ -1,0 +1,99 @@
+#!/usr/bin/env python3
+"""Compares what `ranges check` refuses with what npm refuses. Run at the top of the project, after rt ci (or after rt run in
+crates/ranges), which builds the program.
+
+    tools/manifests/check.py [--take]
+
+specifiers.jsonl has texts of dependencies, and manifests.jsonl has whole files, each with npm's answer behind it: the type that
+npm-package-arg gives the dependency, or `refused`. The first line of each has the versions of the modules that answered. A manifest is
+refused if npm refuses a dependency, an override or the version, or if it isn't JSON. The texts were written for this table. The answers
+were taken by ask.mjs, which asks the modules npm-package-arg and semver that npm brings along; --take takes them anew, of the npm on this
+machine. Where node and npm are here, and the modules have these versions, they are asked each time as well, and must answer the same.
+
+`ranges check` agrees if it reports an error exactly where npm refuses. The last line counts; the status is 1 where something differs."""
+import json, pathlib, shutil, subprocess, sys, tempfile
+
+TOP = pathlib.Path(__file__).resolve().parents[2]
+HERE = pathlib.Path(__file__).resolve().parent
+RANGES = TOP / "crates/ranges/out/ranges"
+TABLES = ("specifiers", "manifests")
+
+
+def rows_of(name):
+    """The versions that a table's answers were taken of, and its rows: texts with answers."""
+    versions, *rows = map(json.loads, (HERE / f"{name}.jsonl").read_text().splitlines())
+    return versions, dict(rows)
+
+
+def asked_anew(texts):
+    """npm's answers on this machine, or none."""
+    npm, node = shutil.which("npm"), shutil.which("node")
+    if not npm or not node:
+        return None
+    modules = pathlib.Path(npm).resolve().parents[1] / "node_modules"
+    if not (modules / "npm-package-arg").is_dir():
+        return None
+    ran = subprocess.run([node, HERE / "ask.mjs", modules], input=json.dumps(texts), capture_output=True, text=True, check=True)
+    return json.loads(ran.stdout)
+
+
+def findings(text):
+    """What `ranges check` finds in a package.json."""
+    with tempfile.TemporaryDirectory() as room:
+        pathlib.Path(room, "package.json").write_text(text)
+        ran = subprocess.run([RANGES, "check", "--json", "package.json"], cwd=room, capture_output=True, text=True, timeout=20)
+    if ran.returncode not in (0, 1):
+        sys.exit(f"ranges check ended with {ran.returncode}: {ran.stderr}")
+    return json.loads(ran.stdout)
+
+
+def refused(text):
+    return [it["name"] for it in findings(text) if it["level"] == "error"]
+
+
+def specifiers(rows):
+    """What differs of specifiers, which are asked in one manifest."""
+    names = {f"p{place}": text for place, text in enumerate(rows)}
+    errors = set(refused(json.dumps({"dependencies": names})))
+    for name, text in names.items():
+        if (name in errors) != (rows[text] == "refused"):
+            yield f"specifier {text!r}: npm has {rows[text]}, ranges check {'refuses' if name in errors else 'accepts'} it"
+
+
+def manifests(rows):
+    for text, wanted in rows.items():
+        found = "refused" if refused(text) else "accepted"
+        if found != wanted:
+            yield f"manifest {text[:80]!r}: npm has {wanted}, ranges check {found}"
+
+
+def take():
+    texts = {name: list(rows_of(name)[1]) for name in TABLES}
+    answers = asked_anew(texts)
+    if answers is None:
+        sys.exit("there is no node with npm here")
+    for name in TABLES:
+        lines = [answers["versions"], *zip(texts[name], answers[name])]
+        (HERE / f"{name}.jsonl").write_text("".join(json.dumps(it, ensure_ascii=False) + "\n" for it in lines))
+
+
+def main():
+    if sys.argv[1:] == ["--take"]:
+        return take()
+    if not RANGES.is_file():
+        sys.exit(f"{RANGES} isn't built: run rt ci first")
+    tables = {name: rows_of(name) for name in TABLES}
+    answers = asked_anew({name: list(rows) for name, (_, rows) in tables.items()})
+    wrong = [*specifiers(tables["specifiers"][1]), *manifests(tables["manifests"][1])]
+    anew = "npm isn't here, or has other versions"
+    if answers and all(answers["versions"] == versions for versions, _ in tables.values()):
+        anew = "npm answers the same"
+        for name, (_, rows) in tables.items():
+            wrong += [f"{name}: {text!r}: npm answers {new}, not {old}" for (text, old), new in zip(rows.items(), answers[name]) if old != new]
+    print(*wrong, sep="\n", end="\n" if wrong else "")
+    counts = " and ".join(f"{len(rows)} {name}" for name, (_, rows) in tables.items())
+    print(f"{counts}, {len(wrong)} differ; {anew}")
+    return 1 if wrong else 0
+
+
+sys.exit(main())
