@@ -9,7 +9,7 @@ use serde_json::Value;
 use std::alloc::{AllocError, Global};
 use std::io::Write;
 use terminal::console::{Console, END, ERROR, Status, Stop, WARNING, print_line};
-use terminal::manifest::Entry;
+use terminal::entry::Entry;
 use terminal::sections::Kind;
 use terminal::shown::{Quoted, Shown};
 

@@ -4,6 +4,7 @@
 pub mod args;
 mod commented;
 pub mod console;
+pub mod entry;
 pub mod hints;
 pub mod input;
 mod json;

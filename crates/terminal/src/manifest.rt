@@ -1,38 +1,13 @@
 //! What a file holds: the ranges of package.json, deno.json, import maps and plain lines.
 
 use crate::commented::without_comments;
+use crate::entry::Entry;
 use crate::json::error_place;
 use crate::sections::{ITEM, Kind, Place, place_of};
 use crate::yaml::entries_of_yaml;
 use serde_json::Value;
 use std::alloc::{AllocError, Global};
 use std::collections::HashSet;
-
-/// A text of a file, or a mistake in it.
-#[derive(Drop)]
-pub struct Entry {
-    /// The first key on the way to it; empty in plain lines.
-    pub section: &'static str,
-    /// Its key: what depends on it. Empty in plain lines.
-    pub name: String,
-    pub text: String,
-    /// The index of its first byte in the file.
-    pub start: usize,
-    pub kind: Kind,
-}
-
-impl Entry {
-    // What is said of the file itself.
-    fn of_file(alloc: Global, start: usize, message: &'static str) -> Entry {
-        Entry {
-            section: "",
-            name: String::new(alloc),
-            text: String::new(alloc),
-            start,
-            kind: Kind::Mistake(message),
-        }
-    }
-}
 
 /// The text that JSON means by this part between two quotes.
 pub fn unescaped(alloc: Global, raw: &str) -> Result<String, AllocError> {

@@ -1,6 +1,6 @@
 //! pnpm-workspace.yaml: as much YAML as holds ranges there, keys with a text behind them, and lists of texts.
 
-use crate::manifest::Entry;
+use crate::entry::Entry;
 use crate::sections::{ITEM, Kind, place_of};
 use std::alloc::{AllocError, Global};
 
