@@ -6,4 +6,4 @@ use Rattle.callers.proofs.import_map.imported_from_jsr.Goals as goal
 pub returns-in-Ok-named-clause-answer : goal.returns-in-Ok-named-clause-answer
 returns-in-Ok-named-clause-answer c =
     let this : IsImport c.in-Ok.reference c.args.version.now c.in-Ok-named.import = search rules in
-    λ reference is. subst (λ (r : PackageReqReference). IsImport r c.args.version.now c.in-Ok-named.import) (c.in-Ok.ensures.answer _ is) this
+    λ reference is. subst (λ (r : PackageReqReference). IsImport r c.args.version.now c.in-Ok-named.import) (c.in-Ok.ensures.parsed.answer _ is) this
