@@ -1,7 +1,7 @@
 #!/usr/bin/env python3
 """Compares what PostgreSQL finds with sets of versions that tools/intervals/check.py makes of node-semver's rules alone.
 
-    check.py PSQL [MATCHES] [SEED]    PSQL: the program, whose environment says which server; MATCHES: so many, 100,000 if it isn't given
+    check.py PSQL [MATCHES] [SEED]    PSQL: the program, whose environment says which server; MATCHES: so many, a million if it isn't given
 
 Random ranges are asked of some 7,000 versions: by an index of versions, in each row, and by scans of an index of keys. Keys and the order
 of versions are compared, too. The last line counts; the status is 1 where something differs."""
@@ -55,7 +55,7 @@ def asked(source, matches):
 
 
 def main():
-    questions = list(asked(random.Random(int(sys.argv[3]) if len(sys.argv) > 3 else 1), int(sys.argv[2]) if len(sys.argv) > 2 else 100_000))
+    questions = list(asked(random.Random(int(sys.argv[3]) if len(sys.argv) > 3 else 1), int(sys.argv[2]) if len(sys.argv) > 2 else 1_000_000))
     script = SETUP.format(rows="\n".join(f"{at}\t{text(it)}" for at, it in enumerate(VERSIONS)))
     script += "\n".join(question for question, _ in questions)
     ran = subprocess.run([sys.argv[1], "-XqAt", "-v", "ON_ERROR_STOP=1"], input=script.encode(), capture_output=True)

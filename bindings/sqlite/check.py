@@ -1,7 +1,7 @@
 #!/usr/bin/env python3
 """Compares what SQLite finds with sets of versions that tools/intervals/check.py makes of node-semver's rules alone.
 
-    check.py EXTENSION [MATCHES] [SEED]    MATCHES: so many, 100,000 if it isn't given
+    check.py EXTENSION [MATCHES] [SEED]    MATCHES: so many, a million if it isn't given
 
 Random ranges are asked of some 7,000 versions, by semver_matches in each row and by semver_scans with an index. Keys and the order by
 SEMVER are compared, too. It needs the program sqlite3. The last line counts; the status is 1 where something differs."""
@@ -43,7 +43,7 @@ def asked(source, matches):
 
 def main():
     extension = os.path.abspath(sys.argv[1])
-    questions = list(asked(random.Random(int(sys.argv[3]) if len(sys.argv) > 3 else 1), int(sys.argv[2]) if len(sys.argv) > 2 else 100_000))
+    questions = list(asked(random.Random(int(sys.argv[3]) if len(sys.argv) > 3 else 1), int(sys.argv[2]) if len(sys.argv) > 2 else 1_000_000))
     rows = "".join(f"insert into versions values ({at}, '{text(it)}');\n" for at, it in enumerate(VERSIONS))
     script = TABLE.format(extension=extension, rows=f"begin;\n{rows}commit;") + "".join(QUESTION.format(range=it, pre=pre) for it, pre, _ in questions)
     ran = subprocess.run(["sqlite3", "-batch", "-bail", ":memory:"], input=script.encode(), capture_output=True)
