@@ -92,7 +92,7 @@ $(OUT)/libdeno_semver.a: $(ARCHIVE) | $(OUT)
 # Only what SQLite calls is visible.
 $(OUT)/mod_deno_semver.so: bindings/sqlite/mod_deno_semver.c bindings/sqlite/exports.map bindings/c/semver.h $(OUT)/libdeno_semver.a
 	$(CC) -O2 -Wall -Wextra -fPIC -shared -s -Ibindings/c -o $@ $< $(OUT)/libdeno_semver.a \
-	    -Wl,--version-script=bindings/sqlite/exports.map -Wl,--gc-sections,-z,defs,-z,relro,-z,now
+	    -Wl,-soname,mod_deno_semver.so,--version-script=bindings/sqlite/exports.map -Wl,--gc-sections,-z,defs,-z,relro,-z,now
 
 $(OUT)/deno_semver.pc: packaging/deno_semver.pc.in Makefile | $(OUT)
 	@sed 's|@VERSION@|$(VERSION)|' $< >$@
