@@ -9,6 +9,9 @@
 
 #include "fmgr.h"
 #include "nodes/nodes.h"
+#if PG_VERSION_NUM >= 160000
+#include "varatt.h"
+#endif
 #include <semver.h>
 
 /* A string in UTF-8. */
