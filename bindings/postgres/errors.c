@@ -25,9 +25,7 @@ void _PG_init(void) {
     if (semver_api() != SEMVER_API) elog(ERROR, "the library has the API %u, and deno_semver needs %d", semver_api(), SEMVER_API);
     DefineCustomIntVariable("deno_semver.max_length", "Sets how many bytes a version may have.", NULL, &max_length, 256, 5, MOST_OF_RANGE, PGC_USERSET,
                             0, NULL, NULL, NULL);
-#if PG_VERSION_NUM >= 150000
     MarkGUCPrefixReserved("deno_semver");
-#endif
 }
 
 /* ---- strings */
