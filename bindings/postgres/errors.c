@@ -70,7 +70,7 @@ uint32_t sv_grammar(const text *name) {
     size_t len = VARSIZE_ANY_EXHDR(name);
     for (uint32_t grammar = 0; grammar < lengthof(NAMES); grammar++)
         if (strlen(NAMES[grammar]) == len && memcmp(VARDATA_ANY(name), NAMES[grammar], len) == 0) return grammar;
-    ereport(ERROR, errcode(ERRCODE_INVALID_PARAMETER_VALUE), errmsg("there is no grammar \"%s\"", text_to_cstring(name)),
+    ereport(ERROR, errcode(ERRCODE_INVALID_PARAMETER_VALUE), errmsg("grammar \"%s\" does not exist", text_to_cstring(name)),
             errhint("Use \"npm\", \"normalized\" or \"strict\"."));
     return SEMVER_NPM;
 }
@@ -166,9 +166,11 @@ void sv_reject_range(Node *context, uint32_t grammar, sv_string range, int32_t c
 
 /* Whether a string is too long, which is an error. A call of the library can't be cancelled, so ranges have a limit, too. */
 bool sv_is_long(Node *context, sv_string string, const char *type) {
-    int most = strcmp(type, "semver") == 0 ? max_length : MOST_OF_RANGE;
+    bool is_version = strcmp(type, "semver") == 0;
+    int most = is_version ? max_length : MOST_OF_RANGE;
     if (string.len <= (size_t)most) return false;
-    errsave(context, (errcode(ERRCODE_PROGRAM_LIMIT_EXCEEDED), errmsg("a %s may have %d bytes, and this one has %zu", type, most, string.len),
-                      most == max_length ? errhint("deno_semver.max_length sets the limit.") : 0));
+    errsave(context, (errcode(ERRCODE_PROGRAM_LIMIT_EXCEEDED),
+                      errmsg("string is too long for type %s (%zu bytes, maximum %d)", type, string.len, most),
+                      is_version ? errhint("The setting deno_semver.max_length is the limit.") : 0));
     return true;
 }

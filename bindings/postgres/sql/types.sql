@@ -20,7 +20,9 @@ SELECT '^1.2.3.4 || ^1.2.3.'::semver_range;
 SELECT '<0.0.0'::semver_range;
 SELECT semver_canonical('1', 'pnpm');
 SELECT semver_canonical('1 2', 'strict');
+SET deno_semver.max_length = 65536;
 SELECT ('1.0.0-' || repeat('a', 70000))::semver_range;
+RESET deno_semver.max_length;
 -- casts in assignments
 CREATE TEMPORARY TABLE texts AS SELECT '1.2.3'::text AS version, '^1'::text AS range;
 CREATE TEMPORARY TABLE typed(version semver, range semver_range);
