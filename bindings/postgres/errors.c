@@ -140,7 +140,8 @@ static size_t first_error(uint32_t grammar, sv_string range, StringInfo expected
     uint32 count = JsonContainerSize(kinds->val.binary.data);
     for (uint32 n = 0; n < count; n++) {
         JsonbValue *kind = getIthJsonbValueFromContainer(kinds->val.binary.data, n);
-        appendStringInfo(expected, "%s%.*s", n == 0 ? "" : ", ", kind->val.string.len, kind->val.string.val);
+        /* A kind has a name, such as digit, and one character stands for itself. */
+        appendStringInfo(expected, kind->val.string.len > 1 ? "%s%.*s" : "%s\"%.*s\"", n == 0 ? "" : ", ", kind->val.string.len, kind->val.string.val);
     }
     JsonbValue *start = getKeyJsonValueFromContainer(error->val.binary.data, "start", strlen("start"), NULL);
     return (size_t)DatumGetInt32(DirectFunctionCall1(numeric_int4, NumericGetDatum(start->val.numeric)));
