@@ -14,6 +14,7 @@ NAMES = re.compile(r"deno[-_]semver(?:_proved)?[-_](\d+\.\d+\.\d+)")
 FILES = {
     "bindings/c/semver.h": (re.compile(r'^#define SEMVER_VERSION "(.*)"', re.M), 1),
     "bindings/js/package.json": (re.compile(r'^  "version": "(.*)"', re.M), 1),
+    "bindings/postgres/META.json": (re.compile(r'^  "version": "(.*)"', re.M), 1),
     "bindings/python/deno_semver/__init__.py": (re.compile(r'^__version__ = "(.*)"', re.M), 1),
     "bindings/rust/Cargo.toml": (re.compile(r'\A\[package\]\nname = .*\nversion = "(.*)"'), 1),
     "README.md": (NAMES, 3),
