@@ -37,3 +37,13 @@ END $$;
 SET client_min_messages = error;
 SELECT * FROM counts('SET enable_seqscan = off');
 SELECT * FROM counts('SET enable_seqscan = on; SET enable_indexscan = off; SET enable_bitmapscan = off; SET enable_indexonlyscan = off');
+-- in a schema that isn't searched
+CREATE SCHEMA elsewhere;
+ALTER EXTENSION deno_semver SET SCHEMA elsewhere;
+RESET ALL;
+SET client_min_messages = warning;
+SET enable_seqscan = off;
+\pset format unaligned
+EXPLAIN (COSTS OFF) SELECT * FROM versions WHERE version OPERATOR(elsewhere.<@) '1.2.3 || ^5.1';
+EXPLAIN (COSTS OFF) SELECT * FROM (VALUES ('^1.2'::elsewhere.semver_range)) d(range) JOIN versions ON version OPERATOR(elsewhere.<@) d.range;
+DROP EXTENSION deno_semver CASCADE;
