@@ -18,24 +18,34 @@ stop() {
     rm -rf "$root"
 }
 
+run() { # COMMAND.. whose output is printed if it fails
+    "$@" >"$root/log" 2>&1 || fail "$(cat "$root/log")"
+}
+
+build() { # TARGET.. of the Makefile
+    run make -s -C "$root/extension" DENO_SEMVER="$library" DESTDIR="$root" "$@"
+}
+
 # PostgreSQL finds its files by where its programs are.
 install() {
+    chmod 755 "$root"
     for part in bindir pkglibdir sharedir; do
         folder=$root$(pg_config --$part)
         mkdir -p "$folder"
         cp -r "$(pg_config --$part)/." "$folder"
     done
     cp -r "$postgres" "$root/extension"
-    make -s -C "$root/extension" DENO_SEMVER="$library" COPT=-Werror >"$root/make.log" 2>&1 || fail "$(cat "$root/make.log")"
-    make -s -C "$root/extension" DENO_SEMVER="$library" install DESTDIR="$root" >"$root/make.log" 2>&1 || fail "$(cat "$root/make.log")"
+    build COPT=-Werror
+    build install
+}
+
+initialize() {
+    mkdir -p "$root/data" "$root/socket"
+    if [ "$(id -u)" = 0 ]; then chown postgres "$root/data" "$root/socket"; fi
+    run as_owner "$bin/initdb" -D "$root/data" -U postgres -A trust -N -E UTF8 --locale=C --locale-provider=icu --icu-locale=en-US
 }
 
 start() { # OPTION.. of the server
-    mkdir "$root/data" "$root/socket"
-    if [ "$(id -u)" = 0 ]; then chown postgres "$root/data" "$root/socket"; fi
-    chmod 755 "$root"
-    as_owner "$bin/initdb" -D "$root/data" -U postgres -A trust -N -E UTF8 --locale=C --locale-provider=icu --icu-locale=en-US >"$root/initdb.log" 2>&1 ||
-        fail "$(cat "$root/initdb.log")"
     as_owner "$bin/pg_ctl" -D "$root/data" -w -l "$root/data/log" -o "-k $PGHOST -c listen_addresses= -c fsync=off $*" start >/dev/null ||
         fail "$(cat "$root/data/log")"
 }

@@ -14,8 +14,9 @@ CREATE INDEX by_precedence ON kept_a(version semver_precedence_ops);
 CREATE INDEX by_key ON kept(semver_is_pre(version), semver_key(version));
 CREATE INDEX by_bound ON kept(bound);
 CREATE INDEX by_hash ON kept USING hash (version);
-SELECT count(bt_index_check(i.indexrelid, true)) FROM pg_index i JOIN pg_class c ON c.oid = indexrelid JOIN pg_am a ON a.oid = relam
+CREATE VIEW checked AS SELECT count(bt_index_check(i.indexrelid, true)) FROM pg_index i JOIN pg_class c ON c.oid = indexrelid JOIN pg_am a ON a.oid = relam
   WHERE indrelid IN ('kept_a'::regclass, 'kept_others'::regclass) AND amname = 'btree';
+SELECT * FROM checked;
 SELECT tableoid::regclass, count(*), max(version), min(version), count(*) FILTER (WHERE version <@ accepts) AS accepted FROM kept GROUP BY 1 ORDER BY 1;
 CREATE TABLE copied(LIKE kept);
 \set file :folder/copied
@@ -26,3 +27,17 @@ TRUNCATE copied;
 COPY (SELECT * FROM kept) TO :'file';
 COPY copied FROM :'file';
 SELECT count(*) FROM kept JOIN copied USING (package, version) WHERE kept.accepts::text = copied.accepts::text AND kept.bound IS NOT DISTINCT FROM copied.bound;
+-- bytes in binary: of a later format, or no version
+CREATE TABLE sent(version semver);
+CREATE TABLE sent_ranges(range semver_range);
+\set ON_ERROR_STOP off
+COPY (SELECT '\x01'::bytea || '1.2.3') TO :'file' (FORMAT binary);
+COPY sent FROM :'file' (FORMAT binary);
+COPY (SELECT '\x02'::bytea || '1.2.3') TO :'file' (FORMAT binary);
+COPY sent FROM :'file' (FORMAT binary);
+COPY sent_ranges FROM :'file' (FORMAT binary);
+COPY (SELECT '\x01'::bytea || '1.2') TO :'file' (FORMAT binary);
+COPY sent FROM :'file' (FORMAT binary);
+COPY sent_ranges FROM :'file' (FORMAT binary);
+\set ON_ERROR_STOP on
+SELECT * FROM sent, sent_ranges;

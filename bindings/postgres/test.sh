@@ -1,7 +1,8 @@
 #!/bin/sh
 # Builds the extension over the C library, installs it into a copy of PostgreSQL below a temporary folder, and tests it in a server of its own,
 # which listens on a socket there and nowhere else: `make installcheck` in databases of three encodings, then what storage.sql asks, a dump that
-# is restored, random matches (check.py), and calls by the million, whose memory must stay. It stops at the first failure.
+# is restored, an update to a next version, pg_upgrade, random matches (check.py), a session that runs out of memory, and calls by the million,
+# whose memory must stay. It stops at the first failure.
 #
 # usage: test.sh FOLDER    FOLDER has lib/libdeno_semver.a and include/semver.h, as make install makes them; a server doesn't run as root, so then
 # it runs as the user postgres
@@ -30,16 +31,24 @@ regress() {
         query postgres "create database contrib_regression template template0 locale 'C' encoding $options"
         make -s -C "$root/extension" installcheck EXTRA_REGRESS_OPTS="--bindir=$bin --use-existing" >"$root/regress.log" 2>&1 ||
             fail "$(cat "$root/regress.log" "$root/extension/regression.diffs")"
-        echo "PostgreSQL: $(grep -c '\.\.\. ok' "$root/regress.log") files, encoding $options"
+        echo "PostgreSQL: $(grep -c '^ok\|\.\.\. ok' "$root/regress.log") files, encoding $options"
         query postgres 'drop database contrib_regression'
     done
 }
 
+# ---- what is stored, in the database of this name
+
+version="select extversion from pg_extension where extname = 'deno_semver'"
+every="select md5(string_agg(t::text, ',' order by t::text)) from kept t"
+
+store() {
+    query postgres 'create database stored'
+    "$bin/psql" -Xq -v ON_ERROR_STOP=1 -d stored -v folder="$PGHOST" <"$postgres/storage.sql" >"$root/stored" 2>&1 || fail "$(cat "$root/stored")"
+    diff "$postgres/storage.out" "$root/stored" >&2 || fail 'storage.sql prints other rows (> printed, < wanted)'
+}
+
 # What is dumped is restored, in text and in PostgreSQL's own format.
 dump() {
-    query postgres 'create database stored'
-    "$bin/psql" -Xq -v ON_ERROR_STOP=1 -d stored -v folder="$PGHOST" -f "$postgres/storage.sql" >"$root/stored"
-    diff "$postgres/storage.out" "$root/stored" >&2 || fail 'storage.sql prints other rows (> printed, < wanted)'
     for format in plain custom; do
         query postgres 'create database restored'
         "$bin/pg_dump" -Fc -d stored >"$root/dump"
@@ -48,39 +57,92 @@ dump() {
         else
             "$bin/pg_restore" -e -d restored "$root/dump"
         fi
-        every="select md5(string_agg(t::text, ',' order by t::text)) from kept t"
         expect "$(query stored "$every")" restored "$every"
         query postgres 'drop database restored'
     done
-    echo 'PostgreSQL: stored, dumped and restored'
+    echo "PostgreSQL: version $(query stored "$version") dumped and restored"
 }
 
-memory() { # PID
-    awk '/^RssAnon/ { print $2 }' "/proc/$1/status"
+# A next version, made as README.md says. The database is updated, and what is stored stays.
+update() {
+    before=$(query stored "$version; $every")
+    sed -i "s/^default_version.*/default_version = 'next'/" "$root/extension/deno_semver.control"
+    echo "CREATE FUNCTION semver_added(semver) RETURNS text LANGUAGE sql AS 'SELECT \$1::text';" \
+        >"$root/extension/deno_semver--$(query stored "$version")--next.sql"
+    build install
+    query stored 'alter extension deno_semver update'
+    expect 1.0.0+b stored "select semver_added(max(version)) from kept where version <@ '1.0.0'"
+    expect "$(echo "$before" | sed '1s/.*/next/')" stored "$version; $every"
+}
+
+# The files of this server are taken by another one, as where PostgreSQL itself gets a new version.
+upgrade() {
+    before=$(query stored "$every")
+    run as_owner "$bin/pg_ctl" -D "$root/data" -w stop
+    mv "$root/data" "$root/old"
+    initialize
+    cd "$root/socket"
+    run as_owner "$bin/pg_upgrade" -b "$bin" -B "$bin" -d "$root/old" -D "$root/data" -s "$PGHOST" -U postgres
+    cd "$postgres"
+    start -c autovacuum=off
+    expect "$before" stored "$every"
+    expect 7 stored 'select * from checked'
+    echo 'PostgreSQL: upgraded by pg_upgrade'
+}
+
+# ---- a session that is asked one question after another
+
+session() { # DATABASE OPTION.. of psql
+    database=$1
+    shift
+    rm -f "$root/asked" "$root/told"
+    mkfifo "$root/asked" "$root/told"
+    "$bin/psql" -XqAt "$@" -d "$database" <"$root/asked" >"$root/told" 2>"$root/errors" &
+    exec 3>"$root/asked" 4<"$root/told"
+    tell 'select pg_backend_pid();'
+    pid=$answer
+}
+
+tell() { # SQL
+    echo "$1" >&3
+    read -r answer <&4 || fail "$1: $(cat "$root/errors")"
+}
+
+end_session() {
+    exec 3>&- 4<&-
+    wait
+}
+
+memory() { # KIND
+    awk "/^$1:/ { print \$2 }" "/proc/$pid/status"
+}
+
+# The address space may grow by a megabyte. The library needs more, and the next question is answered.
+run_out() {
+    session stored
+    as_owner prlimit --pid "$pid" --as=$((1024 * ($(memory VmSize) + 1024)))
+    echo "select repeat('1 || ', 10000)::semver_range;" >&3
+    tell "select '1.2.3' <@ semver_range '^1';"
+    [ "$answer" = t ] || fail "after an error 1.2.3 <@ ^1 is $answer"
+    end_session
+    [ "$(cat "$root/errors")" = 'ERROR:  out of memory' ] || fail "without memory the error is $(cat "$root/errors")"
+    echo 'PostgreSQL: out of memory, and then an answer'
 }
 
 # Ten million calls, and errors that are caught, in one session, whose memory may grow by four megabytes.
 repeat() {
-    mkfifo "$root/asked" "$root/told"
-    "$bin/psql" -XqAt -v ON_ERROR_STOP=1 -d stored <"$root/asked" >"$root/told" 2>"$root/errors" &
-    exec 3>"$root/asked" 4<"$root/told"
-    tell() {
-        echo "$1" >&3
-        read -r answer <&4 || fail "$1: $(cat "$root/errors")"
-    }
+    session stored -v ON_ERROR_STOP=1
     # PostgreSQL keeps what a series returns, so a long one is many short ones.
     calls="select sum(count) from generate_series(1, %s), lateral (select count(*) from generate_series(1, 100000) n where semver_matches(case n %% 2 when 0 then '^1' else '>=1.2.3-a' end, '1.2.3') and '1.2.3-a+b'::text::semver > '1.2.3-a') c"
     errors="do \$\$ declare n int; begin for n in 1..%s loop begin perform ('1.2.3.' || n)::semver; exception when others then null; end; begin perform ('^1.2.3.' || n)::semver_range; exception when others then null; end; end loop; end \$\$; select 1"
     tell "$(printf "$calls;" 2)"
     tell "$(printf "$errors;" 1000)"
-    tell 'select pg_backend_pid();'
-    pid=$answer
-    before=$(memory "$pid")
+    before=$(memory RssAnon)
     tell "$(printf "$calls;" 100)"
     [ "$answer" = 10000000 ] || fail "of ten million calls $answer match"
     tell "$(printf "$errors;" 50000)"
-    grown=$(($(memory "$pid") - before))
-    exec 3>&- 4<&-
+    grown=$(($(memory RssAnon) - before))
+    end_session
     [ $grown -lt 4096 ] || fail "memory grows by $grown kB"
     echo "PostgreSQL: ten million calls and 100,000 errors, memory grows by $grown kB"
 }
@@ -88,8 +150,14 @@ repeat() {
 trap stop EXIT
 install
 exports_no_calls
+initialize
 start -c autovacuum=off
 regress
+store
 dump
+update
+dump
+upgrade
 python3 "$postgres/check.py" "$bin/psql"
+run_out
 repeat

@@ -116,7 +116,7 @@ class Postgres:
     name = "PostgreSQL"
 
     def __init__(self, folder):
-        script = f"postgres={TOP}/bindings/postgres; library={LIBRARY}; . $postgres/server.sh; trap stop EXIT; install; start -c shared_buffers=4GB -c work_mem=256MB -c max_parallel_workers_per_gather=0 -c jit=off -c autovacuum=off; echo $root $bin $PGHOST; read wait"
+        script = f"postgres={TOP}/bindings/postgres; library={LIBRARY}; . $postgres/server.sh; trap stop EXIT; install; initialize; start -c shared_buffers=4GB -c work_mem=256MB -c max_parallel_workers_per_gather=0 -c jit=off -c autovacuum=off; echo $root $bin $PGHOST; read wait"
         self.server = subprocess.Popen(["sh", "-c", script], stdin=subprocess.PIPE, stdout=subprocess.PIPE, text=True)
         _, self.bin, host = self.server.stdout.readline().split()
         self.environment = {**os.environ, "PGHOST": host, "PGUSER": "postgres", "PGDATABASE": "postgres", "PGOPTIONS": "-c client_min_messages=warning"}
