@@ -44,15 +44,20 @@ bool sv_must_repeat(sv_written *it) {
     return true;
 }
 
+/* A database in SQL_ASCII has any bytes, which the library checks. */
+static const char *to_utf8(const char *at, int len) {
+    return GetDatabaseEncoding() == PG_SQL_ASCII ? at : pg_server_to_any(at, len, PG_UTF8);
+}
+
 sv_string sv_utf8(const char *string) {
-    char *utf8 = pg_server_to_any(string, (int)strlen(string), PG_UTF8);
+    const char *utf8 = to_utf8(string, (int)strlen(string));
     return (sv_string){utf8, strlen(utf8)};
 }
 
 sv_string sv_utf8_of(const text *string) {
     const char *at = VARDATA_ANY(string);
     int len = VARSIZE_ANY_EXHDR(string);
-    const char *utf8 = pg_server_to_any(at, len, PG_UTF8);
+    const char *utf8 = to_utf8(at, len);
     return (sv_string){utf8, utf8 == at ? (size_t)len : strlen(utf8)};
 }
 
@@ -80,8 +85,12 @@ uint32_t sv_grammar(const text *name) {
 /* Errors that have nothing to do with a string. */
 static void reject_call(int32_t code) {
     if (code == SEMVER_NO_MEMORY) ereport(ERROR, errcode(ERRCODE_OUT_OF_MEMORY), errmsg("out of memory"));
-    if (code == SEMVER_NOT_UTF8) ereport(ERROR, errcode(ERRCODE_CHARACTER_NOT_IN_REPERTOIRE), errmsg("a version or a range isn't UTF-8"));
     if (code == SEMVER_NO_VALUE || code == SEMVER_NO_GRAMMAR) elog(ERROR, "unexpected code %d", code);
+}
+
+static void reject_bytes(Node *context, const char *type) {
+    errsave(context, (errcode(ERRCODE_CHARACTER_NOT_IN_REPERTOIRE), errmsg("invalid byte sequence for type %s", type),
+                      errdetail("The bytes are not UTF-8.")));
 }
 
 static bool is_inside(char byte) {
@@ -118,6 +127,10 @@ void sv_reject_version(Node *context, sv_string version, int32_t code) {
     size_t place = 0;
     sv_written message;
     reject_call(code);
+    if (code == SEMVER_NOT_UTF8) {
+        reject_bytes(context, "semver");
+        return;
+    }
     SV_WRITES(code, &message, semver_version(SV_BYTES(version), SV_OUT(&message)));
     reject_call(code);
     reject_call(semver_version_error(SV_BYTES(version), &place));
@@ -151,6 +164,10 @@ void sv_reject_range(Node *context, uint32_t grammar, sv_string range, int32_t c
     sv_written message;
     StringInfoData expected;
     reject_call(code);
+    if (code == SEMVER_NOT_UTF8) {
+        reject_bytes(context, "semver_range");
+        return;
+    }
     if (code == SEMVER_TAG) {
         errsave(context, (errcode(ERRCODE_INVALID_TEXT_REPRESENTATION), errmsg("\"%s\" is a tag, and no range of versions", server(range)),
                           errhint("Only the registry knows which version a tag names. Store tags in a column of their own.")));

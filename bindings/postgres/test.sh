@@ -20,9 +20,24 @@ expect() { # WANTED DATABASE SQL
     [ "$got" = "$1" ] || fail "$3: $got, and not $1"
 }
 
+rejects() { # MESSAGE DATABASE SQL
+    ! query "$2" "$3" >"$root/error" 2>&1 || fail "$3: no error"
+    grep -qx "ERROR:  $1" "$root/error" || fail "$3: $(cat "$root/error"), and not $1"
+}
+
 exports_no_calls() {
     exported=$(nm -D --defined-only "$root/extension/deno_semver.so" | grep ' semver_\| rattle_' || true)
     [ -z "$exported" ] || fail "the extension exports the library's $exported"
+}
+
+# A database in SQL_ASCII has any bytes.
+bytes() {
+    query contrib_regression 'create extension deno_semver'
+    expect t contrib_regression "select semver_try(E'1.2.3\\xff') is null"
+    rejects 'invalid byte sequence for type semver' contrib_regression "select E'1.2.3\\xff'::semver"
+    rejects 'invalid byte sequence for type semver_range' contrib_regression "select E'1.2.3\\xff'::semver_range"
+    [ "$(query postgres 'show server_version_num')" -lt 160000 ] ||
+        expect 'f|f' contrib_regression "select pg_input_is_valid(E'1.2.3\\xff', 'semver'), pg_input_is_valid(E'1.2.3\\xff', 'semver_range')"
 }
 
 # The files of sql/ in a database of each encoding.
@@ -32,6 +47,7 @@ regress() {
         make -s -C "$root/extension" installcheck EXTRA_REGRESS_OPTS="--bindir=$bin --use-existing" >"$root/regress.log" 2>&1 ||
             fail "$(cat "$root/regress.log" "$root/extension/regression.diffs")"
         echo "PostgreSQL: $(grep -c '^ok\|\.\.\. ok' "$root/regress.log") files, encoding $options"
+        case $options in *SQL_ASCII*) bytes ;; esac
         query postgres 'drop database contrib_regression'
     done
 }

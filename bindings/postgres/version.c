@@ -81,7 +81,7 @@ Datum deno_semver_try(PG_FUNCTION_ARGS) {
     char none[1];
     size_t needed;
     int32_t code = semver_version(SV_BYTES(version), none, 0, &needed);
-    if (code == SEMVER_INVALID_VERSION) PG_RETURN_NULL();
+    if (code == SEMVER_INVALID_VERSION || code == SEMVER_NOT_UTF8) PG_RETURN_NULL();
     if (code != SEMVER_YES) sv_reject_version(NULL, version, code);
     PG_RETURN_POINTER(sv_read_version(NULL, version));
 }
