@@ -1,6 +1,7 @@
 /* An extension of SQLite: versions and ranges of npm and JSR packages in SQL. README.md says what each function does. */
 #include <semver.h>
 #include <sqlite3ext.h>
+#include <stdlib.h>
 #include <string.h>
 
 SQLITE_EXTENSION_INIT1
@@ -14,7 +15,7 @@ typedef struct {
 
 #define BYTES(t) (t).at, (t).len
 
-/* ---- what calls write */
+/* ---- what calls write, with room for a zero byte behind it */
 
 typedef struct {
     char *at, near[256];
@@ -23,14 +24,14 @@ typedef struct {
 
 static void begin(written *it) {
     it->at = it->near;
-    it->room = sizeof it->near;
+    it->room = sizeof it->near - 1;
     it->len = 0;
 }
 
 /* Whether a call must be repeated, since it had too little room, and has enough now. */
 static int must_repeat(written *it, int32_t *code) {
     if (it->len <= it->room) return 0;
-    it->at = sqlite3_malloc64(it->len);
+    it->at = sqlite3_malloc64(it->len + 1);
     it->room = it->at ? it->len : 0;
     if (!it->at) *code = SEMVER_NO_MEMORY;
     return it->at != NULL;
@@ -105,18 +106,16 @@ static char *error_of_version(int32_t code, text version) {
 
 /* Where a range is invalid: "start" of the first of its errors. */
 static int32_t find_place(uint32_t grammar, text range, size_t *place) {
-    static const char START[] = "\"start\":";
     written json;
     int32_t code;
     begin(&json);
     WRITES(code, json, semver_errors(grammar, BYTES(range), OUT(&json)));
-    /* A text in the JSON has its quotes escaped, so the name of a member is none of its parts. */
-    for (size_t at = 0; code == SEMVER_YES && at + sizeof START <= json.len; at++)
-        if (memcmp(json.at + at, START, sizeof START - 1) == 0) {
-            for (at += sizeof START - 1; at < json.len && json.at[at] >= '0' && json.at[at] <= '9'; at++)
-                *place = *place * 10 + (size_t)(json.at[at] - '0');
-            break;
-        }
+    if (code == SEMVER_YES) {
+        json.at[json.len] = 0;
+        /* A quote within a string is escaped, so this is the name of a member. */
+        const char *start = strstr(json.at, "\"start\":");
+        if (start) *place = strtoull(start + strlen("\"start\":"), NULL, 10);
+    }
     end(&json);
     return code;
 }
