@@ -50,7 +50,8 @@ extern text *sv_text(const char *utf8, size_t len);
 /* Errors. With a context that takes soft errors, of PostgreSQL 16, they return. */
 extern void sv_reject_version(Node *context, sv_string version, int32_t code);
 extern void sv_reject_range(Node *context, uint32_t grammar, sv_string range, int32_t code);
-extern bool sv_is_long(Node *context, sv_string string, const char *type);
+extern bool sv_is_long_version(Node *context, sv_string version);
+extern bool sv_is_long_range(Node *context, sv_string range);
 
 /* The grammar of this name. */
 extern uint32_t sv_grammar(const text *name);

@@ -182,13 +182,21 @@ void sv_reject_range(Node *context, uint32_t grammar, sv_string range, int32_t c
                       expected.len > 0 ? errhint("Expected there: %s.", expected.data) : 0));
 }
 
-/* Whether a string is too long, which is an error. A call of the library can't be cancelled, so ranges have a limit, too. */
-bool sv_is_long(Node *context, sv_string string, const char *type) {
-    bool is_version = strcmp(type, "semver") == 0;
-    int most = is_version ? max_length : MOST_OF_RANGE;
-    if (string.len <= (size_t)most) return false;
+static void reject_length(Node *context, sv_string string, const char *type, int most, const char *hint) {
     errsave(context, (errcode(ERRCODE_PROGRAM_LIMIT_EXCEEDED),
-                      errmsg("string is too long for type %s (%zu bytes, maximum %d)", type, string.len, most),
-                      is_version ? errhint("The setting deno_semver.max_length is the limit.") : 0));
+                      errmsg("string is too long for type %s (%zu bytes, maximum %d)", type, string.len, most), hint ? errhint("%s", hint) : 0));
+}
+
+/* Whether a version is too long, which is an error. */
+bool sv_is_long_version(Node *context, sv_string version) {
+    if (version.len <= (size_t)max_length) return false;
+    reject_length(context, version, "semver", max_length, "The setting deno_semver.max_length is the limit.");
+    return true;
+}
+
+/* A call of the library can't be cancelled, so ranges have a limit, too. */
+bool sv_is_long_range(Node *context, sv_string range) {
+    if (range.len <= MOST_OF_RANGE) return false;
+    reject_length(context, range, "semver_range", MOST_OF_RANGE, NULL);
     return true;
 }

@@ -4,11 +4,10 @@
 #include "utils/builtins.h"
 #include "utils/memutils.h"
 
-/* The range of the last call, which is parsed anew where another one is given. */
+/* The range of the last call, and the arguments that it was parsed from, if it was. Others are parsed anew. */
 typedef struct {
     semver_req req;
-    uint32_t grammar;
-    text *text;
+    text *range, *grammar;
     MemoryContextCallback callback;
 } kept_range;
 
@@ -28,33 +27,38 @@ static kept_range *kept_by(FmgrInfo *function) {
     return function->fn_extra;
 }
 
-static bool is_kept(const kept_range *it, uint32_t grammar, const text *range) {
-    return it->text && it->grammar == grammar && VARSIZE_ANY_EXHDR(it->text) == VARSIZE_ANY_EXHDR(range) &&
-           memcmp(VARDATA_ANY(it->text), VARDATA_ANY(range), VARSIZE_ANY_EXHDR(range)) == 0;
+static bool is_same(const text *one, const text *other) {
+    size_t size = VARSIZE_ANY_EXHDR(one);
+    return size == VARSIZE_ANY_EXHDR(other) && memcmp(VARDATA_ANY(one), VARDATA_ANY(other), size) == 0;
 }
 
-static void keep(kept_range *it, FmgrInfo *function, uint32_t grammar, const text *range) {
-    sv_string utf8 = sv_utf8(text_to_cstring(range));
+static text *copy_into(MemoryContext context, const text *string) {
+    return memcpy(MemoryContextAlloc(context, VARSIZE_ANY(string)), string, VARSIZE_ANY(string));
+}
+
+static void keep(kept_range *it, MemoryContext context, const text *range, const text *grammar) {
+    uint32_t number = sv_grammar(grammar);
+    sv_string utf8 = sv_utf8_of(range);
     char none[1];
     size_t needed;
-    sv_is_long(NULL, utf8, "semver_range");
-    if (it->text) pfree(it->text);
-    it->text = NULL;
-    text *copy = MemoryContextAlloc(function->fn_mcxt, VARSIZE_ANY(range));
-    memcpy(copy, range, VARSIZE_ANY(range));
-    int32_t code = semver_req_read(grammar, SV_BYTES(utf8), &it->req, none, 0, &needed);
+    sv_is_long_range(NULL, utf8);
+    if (it->range) {
+        pfree(it->range);
+        pfree(it->grammar);
+        it->range = NULL;
+    }
+    int32_t code = semver_req_read(number, SV_BYTES(utf8), &it->req, none, 0, &needed);
     if (code == SEMVER_YES && semver_req_is_tag(&it->req) == SEMVER_YES) code = SEMVER_TAG;
-    if (code != SEMVER_YES) sv_reject_range(NULL, grammar, utf8, code);
-    it->text = copy;
-    it->grammar = grammar;
+    if (code != SEMVER_YES) sv_reject_range(NULL, number, utf8, code);
+    it->grammar = copy_into(context, grammar);
+    it->range = copy_into(context, range);
 }
 
 /* The arguments behind the range and the version are whether pre-releases match throughout, and the name of a grammar. */
 static Datum matches(FunctionCallInfo fcinfo, sv_string version) {
-    text *range = PG_GETARG_TEXT_PP(0);
-    uint32_t grammar = sv_grammar(PG_GETARG_TEXT_PP(3));
+    text *range = PG_GETARG_TEXT_PP(0), *grammar = PG_GETARG_TEXT_PP(3);
     kept_range *it = kept_by(fcinfo->flinfo);
-    if (!is_kept(it, grammar, range)) keep(it, fcinfo->flinfo, grammar, range);
+    if (!it->range || !is_same(it->range, range) || !is_same(it->grammar, grammar)) keep(it, fcinfo->flinfo->fn_mcxt, range, grammar);
     int32_t code = semver_req_fits(&it->req, SV_BYTES(version), PG_GETARG_BOOL(2) ? SEMVER_ADMITTED : SEMVER_RESTRICTED);
     if (code < 0) sv_reject_version(NULL, version, code);
     PG_RETURN_BOOL(code == SEMVER_YES);
@@ -68,6 +72,6 @@ Datum deno_semver_matches(PG_FUNCTION_ARGS) {
 PG_FUNCTION_INFO_V1(deno_semver_matches_text);
 Datum deno_semver_matches_text(PG_FUNCTION_ARGS) {
     sv_string version = sv_utf8_of(PG_GETARG_TEXT_PP(1));
-    sv_is_long(NULL, version, "semver");
+    sv_is_long_version(NULL, version);
     return matches(fcinfo, version);
 }

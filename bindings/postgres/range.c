@@ -107,7 +107,7 @@ static struct varlena *read_range(Node *context, uint32_t grammar, uint32_t pre_
     size_t needed;
     struct varlena *volatile made = NULL;
     volatile int32_t code = 0;
-    if (sv_is_long(context, text, "semver_range")) return NULL;
+    if (sv_is_long_range(context, text)) return NULL;
     code = semver_req_read(grammar, SV_BYTES(text), &req, none, 0, &needed);
     PG_TRY();
     {
@@ -251,7 +251,7 @@ Datum deno_semver_canonical(PG_FUNCTION_ARGS) {
     uint32_t grammar = sv_grammar(PG_GETARG_TEXT_PP(1));
     sv_written canonical;
     int32_t code;
-    sv_is_long(NULL, range, "semver_range");
+    sv_is_long_range(NULL, range);
     SV_WRITES(code, &canonical, semver_normal(grammar, SV_BYTES(range), SV_OUT(&canonical)));
     if (code != SEMVER_YES) sv_reject_range(NULL, grammar, range, code);
     PG_RETURN_TEXT_P(sv_text(canonical.at, canonical.len));

@@ -13,7 +13,7 @@ enum { FORMAT = 1 }; /* of what is sent: the version as displayed follows */
 struct varlena *sv_read_version(Node *context, sv_string version) {
     sv_written shown, key;
     int32_t code;
-    if (sv_is_long(context, version, "semver")) return NULL;
+    if (sv_is_long_version(context, version)) return NULL;
     SV_WRITES(code, &shown, semver_version(SV_BYTES(version), SV_OUT(&shown)));
     if (code == SEMVER_YES) SV_WRITES(code, &key, semver_key(SV_BYTES(version), SV_OUT(&key)));
     if (code != SEMVER_YES) {
