@@ -60,7 +60,6 @@ extern uint32_t sv_grammar(const text *name);
  *
  * A zero byte is below each byte of a key, so strcmp compares keys. */
 
-extern struct varlena *sv_read_version(Node *context, sv_string version);
 extern sv_string sv_version_key(const struct varlena *version);
 extern sv_string sv_version_string(const struct varlena *version);
 extern bool sv_is_pre(const char *key);

@@ -10,21 +10,29 @@ enum { FORMAT = 1 }; /* of what is sent: the version as displayed follows */
 
 /* ---- input and output */
 
-struct varlena *sv_read_version(Node *context, sv_string version) {
+/* Makes what is stored of a version, if it is one. */
+static int32_t make(sv_string version, struct varlena **made) {
+    static semver_ver held; /* the last version, so that no error loses it */
     sv_written shown, key;
     int32_t code;
+    SV_WRITES(code, &shown, semver_version_read(SV_BYTES(version), &held, SV_OUT(&shown)));
+    if (code != SEMVER_YES) return code;
+    SV_WRITES(code, &key, semver_version_key(&held, SV_OUT(&key)));
+    if (code != SEMVER_YES) return code;
+    *made = palloc(VARHDRSZ + key.len + 1 + shown.len);
+    SET_VARSIZE(*made, VARHDRSZ + key.len + 1 + shown.len);
+    memcpy(VARDATA(*made), key.at, key.len);
+    VARDATA(*made)[key.len] = 0;
+    memcpy(VARDATA(*made) + key.len + 1, shown.at, shown.len);
+    return code;
+}
+
+/* Reads a version; NULL if it is invalid, and that is a soft error. */
+static struct varlena *read_version(Node *context, sv_string version) {
+    struct varlena *made = NULL;
     if (sv_is_long_version(context, version)) return NULL;
-    SV_WRITES(code, &shown, semver_version(SV_BYTES(version), SV_OUT(&shown)));
-    if (code == SEMVER_YES) SV_WRITES(code, &key, semver_key(SV_BYTES(version), SV_OUT(&key)));
-    if (code != SEMVER_YES) {
-        sv_reject_version(context, version, code);
-        return NULL;
-    }
-    struct varlena *made = palloc(VARHDRSZ + key.len + 1 + shown.len);
-    SET_VARSIZE(made, VARHDRSZ + key.len + 1 + shown.len);
-    memcpy(VARDATA(made), key.at, key.len);
-    VARDATA(made)[key.len] = 0;
-    memcpy(VARDATA(made) + key.len + 1, shown.at, shown.len);
+    int32_t code = make(version, &made);
+    if (code != SEMVER_YES) sv_reject_version(context, version, code);
     return made;
 }
 
@@ -44,7 +52,7 @@ bool sv_is_pre(const char *key) {
 
 PG_FUNCTION_INFO_V1(deno_semver_in);
 Datum deno_semver_in(PG_FUNCTION_ARGS) {
-    struct varlena *version = sv_read_version(fcinfo->context, sv_utf8(PG_GETARG_CSTRING(0)));
+    struct varlena *version = read_version(fcinfo->context, sv_utf8(PG_GETARG_CSTRING(0)));
     if (!version) PG_RETURN_NULL();
     PG_RETURN_POINTER(version);
 }
@@ -61,7 +69,7 @@ Datum deno_semver_recv(PG_FUNCTION_ARGS) {
     int format = pq_getmsgbyte(message), len;
     if (format != FORMAT) ereport(ERROR, errcode(ERRCODE_INVALID_BINARY_REPRESENTATION), errmsg("unsupported format %d of a semver", format));
     char *version = pq_getmsgtext(message, message->len - message->cursor, &len);
-    PG_RETURN_POINTER(sv_read_version(NULL, sv_utf8(version)));
+    PG_RETURN_POINTER(read_version(NULL, sv_utf8(version)));
 }
 
 PG_FUNCTION_INFO_V1(deno_semver_send);
@@ -78,12 +86,12 @@ Datum deno_semver_send(PG_FUNCTION_ARGS) {
 PG_FUNCTION_INFO_V1(deno_semver_try);
 Datum deno_semver_try(PG_FUNCTION_ARGS) {
     sv_string version = sv_utf8_of(PG_GETARG_TEXT_PP(0));
-    char none[1];
-    size_t needed;
-    int32_t code = semver_version(SV_BYTES(version), none, 0, &needed);
+    struct varlena *made = NULL;
+    int32_t code = make(version, &made);
     if (code == SEMVER_INVALID_VERSION || code == SEMVER_NOT_UTF8) PG_RETURN_NULL();
     if (code != SEMVER_YES) sv_reject_version(NULL, version, code);
-    PG_RETURN_POINTER(sv_read_version(NULL, version));
+    sv_is_long_version(NULL, version);
+    PG_RETURN_POINTER(made);
 }
 
 PG_FUNCTION_INFO_V1(deno_semver_key);
