@@ -47,7 +47,8 @@ sv_string sv_version_string(const struct varlena *version) {
 
 /* Behind the numbers of a key, which are letters and digits, a pre-release has a hyphen, and a release a tilde. */
 bool sv_is_pre(const char *key) {
-    return key[strcspn(key, "-~")] == '-';
+    while (*key != '-' && *key != '~') key++;
+    return *key == '-';
 }
 
 PG_FUNCTION_INFO_V1(deno_semver_in);
@@ -167,9 +168,9 @@ static int by_build(const struct varlena *one, const struct varlena *other) {
 
 /* The order of versions: by precedence and then by build, so that versions are equal if they are the same. */
 static int order(const struct varlena *one, const struct varlena *other) {
+    if (is_same(one, other)) return 0;
     int by_key = by_precedence(one, other);
-    if (by_key != 0 || is_same(one, other)) return by_key;
-    return by_build(one, other);
+    return by_key != 0 ? by_key : by_build(one, other);
 }
 
 /* A bound stands below each version of the same key, so that it equals none. */
