@@ -150,7 +150,7 @@ repeat() {
     session stored -v ON_ERROR_STOP=1
     # PostgreSQL keeps what a series returns, so a long one is many short ones.
     calls="select sum(count) from generate_series(1, %s), lateral (select count(*) from generate_series(1, 100000) n where semver_matches(case n %% 2 when 0 then '^1' else '>=1.2.3-a' end, '1.2.3') and '1.2.3-a+b'::text::semver > '1.2.3-a') c"
-    errors="do \$\$ declare n int; begin for n in 1..%s loop begin perform ('1.2.3.' || n)::semver; exception when others then null; end; begin perform ('^1.2.3.' || n)::semver_range; exception when others then null; end; end loop; end \$\$; select 1"
+    errors="do \$\$ declare n int; begin for n in 1..%s loop begin perform ('1.2.3.' || n)::semver; exception when others then null; end; begin perform ('^1.2.3.' || n)::semver_range; exception when others then null; end; begin perform semver_matches('^1.2.3.' || n, '1.2.3'); exception when others then null; end; end loop; end \$\$; select 1"
     tell "$(printf "$calls;" 2)"
     tell "$(printf "$errors;" 1000)"
     before=$(memory RssAnon)
@@ -160,7 +160,7 @@ repeat() {
     grown=$(($(memory RssAnon) - before))
     end_session
     [ $grown -lt 4096 ] || fail "memory grows by $grown kB"
-    echo "PostgreSQL: ten million calls and 100,000 errors, memory grows by $grown kB"
+    echo "PostgreSQL: ten million calls and 150,000 errors, memory grows by $grown kB"
 }
 
 trap stop EXIT
