@@ -14,6 +14,9 @@
 #endif
 #include <semver.h>
 
+/* What the files share isn't exported, so the compiler may inline it. */
+#pragma GCC visibility push(hidden)
+
 /* A string in UTF-8. */
 typedef struct {
     const char *at;
@@ -62,7 +65,12 @@ extern uint32_t sv_grammar(const text *name);
 
 extern sv_string sv_version_key(const struct varlena *version);
 extern sv_string sv_version_string(const struct varlena *version);
-extern bool sv_is_pre(const char *key);
+
+/* A number of a key is a letter and digits, A for one digit. Behind the three a pre-release has a hyphen, and a release a tilde. */
+static inline bool sv_is_pre(const char *key) {
+    for (int number = 0; number < 3; number++) key += *key - 'A' + 2;
+    return *key == '-';
+}
 
 /* ---- semver_bound: a key, or the bound of a scan, and a zero byte. It stands below each version of the same key. */
 
@@ -80,5 +88,7 @@ extern const char *sv_low(const sv_scans *scans, uint32_t index);
 extern const char *sv_high(const sv_scans *scans, uint32_t index);
 extern bool sv_contains(const struct varlena *range, const struct varlena *version);
 extern void sv_hull(const struct varlena *range, const char **low, const char **high);
+
+#pragma GCC visibility pop
 
 #endif

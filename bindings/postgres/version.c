@@ -45,12 +45,6 @@ sv_string sv_version_string(const struct varlena *version) {
     return (sv_string){VARDATA_ANY(version) + key, VARSIZE_ANY_EXHDR(version) - key};
 }
 
-/* Behind the numbers of a key, which are letters and digits, a pre-release has a hyphen, and a release a tilde. */
-bool sv_is_pre(const char *key) {
-    while (*key != '-' && *key != '~') key++;
-    return *key == '-';
-}
-
 PG_FUNCTION_INFO_V1(deno_semver_in);
 Datum deno_semver_in(PG_FUNCTION_ARGS) {
     struct varlena *version = read_version(fcinfo->context, sv_utf8(PG_GETARG_CSTRING(0)));
