@@ -86,7 +86,6 @@ typedef struct {
 extern sv_scans sv_scans_of(const struct varlena *range);
 extern const char *sv_low(const sv_scans *scans, uint32_t index);
 extern const char *sv_high(const sv_scans *scans, uint32_t index);
-extern bool sv_contains(const struct varlena *range, const struct varlena *version);
 extern void sv_hull(const struct varlena *range, const char **low, const char **high);
 
 #pragma GCC visibility pop

@@ -180,7 +180,7 @@ static bool has_key(const sv_scans *scans, uint32_t from, uint32_t to, const cha
     return from > first && strcmp(key, sv_high(scans, from - 1)) < 0;
 }
 
-bool sv_contains(const struct varlena *range, const struct varlena *version) {
+static bool contains(const struct varlena *range, const struct varlena *version) {
     sv_scans scans = sv_scans_of(range);
     const char *key = VARDATA_ANY(version);
     return sv_is_pre(key) ? has_key(&scans, scans.releases, scans.count, key) : has_key(&scans, 0, scans.releases, key);
@@ -198,12 +198,12 @@ void sv_hull(const struct varlena *range, const char **low, const char **high) {
 
 PG_FUNCTION_INFO_V1(deno_semver_within);
 Datum deno_semver_within(PG_FUNCTION_ARGS) {
-    PG_RETURN_BOOL(sv_contains(PG_GETARG_VARLENA_PP(1), PG_GETARG_VARLENA_PP(0)));
+    PG_RETURN_BOOL(contains(PG_GETARG_VARLENA_PP(1), PG_GETARG_VARLENA_PP(0)));
 }
 
 PG_FUNCTION_INFO_V1(deno_semver_contains);
 Datum deno_semver_contains(PG_FUNCTION_ARGS) {
-    PG_RETURN_BOOL(sv_contains(PG_GETARG_VARLENA_PP(0), PG_GETARG_VARLENA_PP(1)));
+    PG_RETURN_BOOL(contains(PG_GETARG_VARLENA_PP(0), PG_GETARG_VARLENA_PP(1)));
 }
 
 PG_FUNCTION_INFO_V1(deno_semver_range_low);
