@@ -46,7 +46,8 @@ bool sv_must_repeat(sv_written *it) {
 
 /* A database in SQL_ASCII has any bytes, which the library checks. */
 static const char *to_utf8(const char *at, int len) {
-    return GetDatabaseEncoding() == PG_SQL_ASCII ? at : pg_server_to_any(at, len, PG_UTF8);
+    int encoding = GetDatabaseEncoding();
+    return encoding == PG_UTF8 || encoding == PG_SQL_ASCII ? at : pg_server_to_any(at, len, PG_UTF8);
 }
 
 sv_string sv_utf8(const char *string) {

@@ -1,13 +1,15 @@
 /* semver_matches: whether a version, also one that is text, matches a range, by any grammar. */
 #include "deno_semver.h"
 
+#include "nodes/primnodes.h"
 #include "utils/builtins.h"
 #include "utils/memutils.h"
 
-/* The range of the last call, and the arguments that it was parsed from, if it was. Others are parsed anew. */
+/* The range of the last call, and the arguments that it was parsed from, if it was. Others are parsed anew, and constants never differ. */
 typedef struct {
     semver_req req;
     text *range, *grammar;
+    bool is_constant;
     MemoryContextCallback callback;
 } kept_range;
 
@@ -15,10 +17,16 @@ static void free_kept(void *it) {
     semver_req_free(&((kept_range *)it)->req);
 }
 
+static bool is_constant(const FmgrInfo *function, int argument) {
+    const Node *call = function->fn_expr;
+    return call && IsA(call, FuncExpr) && IsA(list_nth(((const FuncExpr *)call)->args, argument), Const);
+}
+
 /* What a call keeps for the next one. It is freed with the context of the function, also where an error ends the query. */
 static kept_range *kept_by(FmgrInfo *function) {
     if (!function->fn_extra) {
         kept_range *it = MemoryContextAllocZero(function->fn_mcxt, sizeof *it);
+        it->is_constant = is_constant(function, 0) && is_constant(function, 3);
         it->callback.func = free_kept;
         it->callback.arg = it;
         MemoryContextRegisterResetCallback(function->fn_mcxt, &it->callback);
@@ -56,9 +64,11 @@ static void keep(kept_range *it, MemoryContext context, const text *range, const
 
 /* The arguments behind the range and the version are whether pre-releases match throughout, and the name of a grammar. */
 static Datum matches(FunctionCallInfo fcinfo, sv_string version) {
-    text *range = PG_GETARG_TEXT_PP(0), *grammar = PG_GETARG_TEXT_PP(3);
     kept_range *it = kept_by(fcinfo->flinfo);
-    if (!it->range || !is_same(it->range, range) || !is_same(it->grammar, grammar)) keep(it, fcinfo->flinfo->fn_mcxt, range, grammar);
+    if (!it->range || !it->is_constant) {
+        text *range = PG_GETARG_TEXT_PP(0), *grammar = PG_GETARG_TEXT_PP(3);
+        if (!it->range || !is_same(it->range, range) || !is_same(it->grammar, grammar)) keep(it, fcinfo->flinfo->fn_mcxt, range, grammar);
+    }
     int32_t code = semver_req_fits(&it->req, SV_BYTES(version), PG_GETARG_BOOL(2) ? SEMVER_ADMITTED : SEMVER_RESTRICTED);
     if (code < 0) sv_reject_version(NULL, version, code);
     PG_RETURN_BOOL(code == SEMVER_YES);
