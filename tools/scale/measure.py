@@ -5,14 +5,14 @@ prints that table. All ways must have the same answer.
     tools/scale/measure.py LIBRARY [VERSIONS]
 
 LIBRARY is where make install put the C library and SQLite's extension (its PREFIX). VERSIONS: so many, 5,000,000 if it isn't given, of a
-fiftieth as many packages; there are a twenty-fifth as many dependencies. Times are in milliseconds, the least of three."""
+fiftieth as many packages; there are a twenty-fifth as many dependencies. Times are in milliseconds, the least of five."""
 import os, random, re, subprocess, sys, tempfile
 from pathlib import Path
 
 TOP = Path(__file__).resolve().parents[2]
 LIBRARY = Path(sys.argv[1]).resolve()
 COUNT = int(sys.argv[2]) if len(sys.argv) > 2 else 5_000_000
-TIMES = 3
+TIMES = 5
 RANGES = ("^1.2", "^4.5.6", "1.2 || ^3.1 || 5.0.0 - 5.3.0")
 BIG = "p0"
 
