@@ -194,17 +194,20 @@ static void matches(sqlite3_context *context, int count, sqlite3_value **values)
         sqlite3_result_error(context, NO_GRAMMAR, -1);
         return;
     }
-    text t = text_of(values[0]), version = text_of(values[1]);
-    if (!t.at || !version.at) {
+    text version = text_of(values[1]);
+    if (!version.at) {
         sqlite3_result_error_nomem(context);
         return;
     }
-    int32_t code;
+    int32_t code = SEMVER_NO_MEMORY;
     range *kept = sqlite3_get_auxdata(context, 0), *it = kept;
-    if (!kept || kept->grammar != how.grammar) it = read_range(how.grammar, t, &code);
-    if (!it) {
-        fail_range(context, code, how.grammar, t);
-        return;
+    if (!kept || kept->grammar != how.grammar) {
+        text t = text_of(values[0]);
+        it = t.at ? read_range(how.grammar, t, &code) : NULL;
+        if (!it) {
+            fail_range(context, code, how.grammar, t);
+            return;
+        }
     }
     code = semver_req_fits(&it->req, BYTES(version), how.pre_releases);
     if (code >= 0) sqlite3_result_int(context, code);
