@@ -12,6 +12,7 @@ TOP = pathlib.Path(__file__).resolve().parents[1]
 NAMES = re.compile(r"deno[-_]semver(?:_proved)?[-_](\d+\.\d+\.\d+)")
 # Where the version stands in each file, and how often it does at least.
 FILES = {
+    "action.yml": (re.compile(r"^    default: (\d+\.\d+\.\d+)$", re.M), 1),
     "bindings/c/semver.h": (re.compile(r'^#define SEMVER_VERSION "(.*)"', re.M), 1),
     "bindings/js/package.json": (re.compile(r'^  "version": "(.*)"', re.M), 1),
     "bindings/postgres/META.json": (re.compile(r'^  "version": "(.*)"', re.M), 1),
