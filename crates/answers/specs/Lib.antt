@@ -12,3 +12,4 @@ pub mod Object
 pub mod AskingLaws
 pub mod ErrorLaws
 pub mod ReadingLaws
+pub mod Steps

@@ -23,6 +23,8 @@ pub enum Kind {
     Version,
     Package,
     Reference,
+    /// A step to a next version: its identifiers are invalid, or there is no such version.
+    Step,
 }
 
 /// An argument that isn't what it should be.

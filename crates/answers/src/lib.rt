@@ -12,3 +12,4 @@ pub mod parts;
 pub mod questions;
 pub mod reading;
 pub mod sorting;
+pub mod steps;

@@ -31,6 +31,7 @@ pub fn reject<O: Write, E: Write>(
         Kind::Version => "version",
         Kind::Package => "package",
         Kind::Reference => "reference",
+        Kind::Step => "increment",
     };
     let message = invalid.failure.message();
     let errors = errors_of(console.alloc, console.options.flavour, argument, invalid)?;
@@ -48,7 +49,7 @@ pub fn reject<O: Write, E: Write>(
     let grammar = match invalid.kind {
         Kind::Range | Kind::Package => Some(console.options.flavour),
         Kind::Reference => Some(Flavour::Specifier),
-        Kind::Version => None,
+        Kind::Version | Kind::Step => None,
     };
     let style = console.terminal.err;
     // What can't be written to standard error is left out.

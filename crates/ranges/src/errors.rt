@@ -40,6 +40,8 @@ pub fn errors_of(
         Kind::Package => package_errors(alloc, flavour, text),
         Kind::Reference => reference_errors(alloc, text),
         Kind::Version => Ok(PackageErrors::Range(version_errors(alloc, text)?)),
+        // It has no place in a text.
+        Kind::Step => Ok(PackageErrors::Range(Vec::new(alloc))),
     }
 }
 
