@@ -17,7 +17,7 @@ typedef struct {
 } text;
 
 /* What the codes from 0 on mean in an answer. */
-typedef enum { FIT, ORDER } names;
+typedef enum { FIT, ORDER, KIND } names;
 
 long heap_alive(void), heap_limit(long allocations); /* of heap.c */
 
@@ -51,8 +51,20 @@ static text cut(text *rest, int mark) {
     return front;
 }
 
+/* The kinds of releases, and that there is none. */
+static const char *const KINDS[] = {"major", "minor", "patch", "premajor", "preminor", "prepatch", "prerelease", "release", "none"};
+static const char *const BASES[] = {"zero", "one", "nothing"};
+
+/* The number of a name among these, or one more than all have. */
+static uint32_t number_of(text t, const char *const *names, size_t count) {
+    uint32_t number = 0;
+    while (number < count && !is(t, names[number])) number++;
+    return number;
+}
+
 /* The name of a code in the table. */
 static const char *name_of(int32_t code, names of) {
+    if (of == KIND && code >= 0 && (size_t)code < sizeof KINDS / sizeof *KINDS) return KINDS[code];
     switch (code) {
     case SEMVER_NO: return of == ORDER ? "before" : "no";
     case SEMVER_YES: return of == ORDER ? "same" : "yes";
@@ -63,6 +75,7 @@ static const char *name_of(int32_t code, names of) {
     case SEMVER_NOT_UTF8: return "invalid UTF-8";
     case SEMVER_NO_GRAMMAR: return "unknown grammar";
     case SEMVER_NO_MEMORY: return "out of memory";
+    case SEMVER_NO_INCREMENT: return "no increment";
     default: return "no such code";
     }
 }
@@ -252,6 +265,19 @@ static void compare(const text *t) {
     check_place(code, place);
 }
 
+/* The kind, the base, the version and the identifiers. */
+static void increment(const text *t) {
+    uint32_t kind = number_of(t[0], KINDS, SEMVER_NO_DIFFERENCE), base = number_of(t[1], BASES, sizeof BASES / sizeof *BASES);
+    check_text(semver_increment(kind, BYTES(t[2]), BYTES(t[3]), base, OUT));
+}
+
+static void difference(const text *t) {
+    size_t place = 99;
+    int32_t code = semver_difference(BYTES(t[0]), BYTES(t[1]), &place);
+    check(code, KIND, NULL, 0);
+    check_place(code, place);
+}
+
 static void within(const text *t) {
     size_t place = 99;
     int32_t code = semver_within(grammar, BYTES(t[0]), BYTES(t[1]), pre_releases, OUT, &place);
@@ -422,6 +448,8 @@ static const struct call {
     {"version_reference", 0, .text = semver_version_reference},
     {"dependency", 1, .req = semver_dependency},
     {"export_name", 0, .text = semver_export_name},
+    {"increment", 0, .ask = increment},
+    {"difference", 0, .ask = difference},
     {"compare", 0, .ask = compare, .held_versions = semver_version_compare},
     {"order", 0, .held_versions = semver_version_order},
     {"overlap", 1, .ask = overlap, .held_reqs = semver_req_overlap},

@@ -45,6 +45,18 @@ enum { SEMVER_PACKAGE = 0, SEMVER_REFERENCE = 1 };
 /* pre-releases: by npm's rule, or every one between the bounds, which any other number means, too */
 enum { SEMVER_RESTRICTED = 0, SEMVER_ADMITTED = 1 };
 
+/* kinds of releases, by which step a version comes next; for semver_difference also that there is none */
+enum {
+    SEMVER_MAJOR = 0, SEMVER_MINOR = 1, SEMVER_PATCH = 2,
+    SEMVER_PREMAJOR = 3, SEMVER_PREMINOR = 4, SEMVER_PREPATCH = 5, /* a pre-release of the next of these */
+    SEMVER_PRERELEASE = 6,                                         /* the next pre-release */
+    SEMVER_RELEASE = 7,                                            /* the release of a pre-release */
+    SEMVER_NO_DIFFERENCE = 8
+};
+
+/* the number behind the identifiers of a first pre-release, or none */
+enum { SEMVER_BASE_ZERO = 0, SEMVER_BASE_ONE = 1, SEMVER_NO_BASE = 2 };
+
 /* codes */
 enum {
     SEMVER_NO = 0,
@@ -54,9 +66,10 @@ enum {
     SEMVER_INVALID_RANGE = -2,   /* a range, a package or a reference is invalid */
     SEMVER_INVALID_VERSION = -3,
     SEMVER_NOT_UTF8 = -4,        /* bytes aren't valid UTF-8 */
-    SEMVER_NO_GRAMMAR = -5,      /* no grammar has this number, or no kind of text (semver_why) */
+    SEMVER_NO_GRAMMAR = -5,      /* no grammar has this number, no kind of text (semver_why), no kind of release, or no base */
     SEMVER_NO_MEMORY = -6,       /* out of memory */
-    SEMVER_NO_VALUE = -7         /* a handle is empty, or holds a value of another kind */
+    SEMVER_NO_VALUE = -7,        /* a handle is empty, or holds a value of another kind */
+    SEMVER_NO_INCREMENT = -8     /* there is no next version, or the identifiers of its pre-release are invalid */
 };
 
 /* ---- versions and ranges, from texts */
@@ -90,6 +103,21 @@ int32_t semver_sort(const char *versions, size_t versions_len, size_t *places, s
 
 /* The order of two versions, builds aside: BEFORE, if the first is before the other, SAME or AFTER. */
 int32_t semver_compare(const char *one, size_t one_len, const char *other, size_t other_len, size_t *place);
+
+/* The next version of a kind, without a build: YES. It is the next release, or the first pre-release of it, which has the identifiers, with
+ * "." between them, or none, and then the number of `base`. SEMVER_PATCH of 1.2.3-rc.1 is its own release, 1.2.3, and so are SEMVER_MINOR and
+ * SEMVER_MAJOR where the numbers behind are 0. SEMVER_PRERELEASE raises the last number of a pre-release that begins with the identifiers and
+ * goes on with a number, or of any pre-release without identifiers; one with other identifiers gets these, which may be below the version.
+ * NO_INCREMENT where a number would be above 18446744073709551615, SEMVER_RELEASE is asked of a release, the pre-release would be
+ * empty, or it is that of the version. */
+int32_t semver_increment(uint32_t release_type, const char *version, size_t version_len,
+                         const char *identifiers, size_t identifiers_len, uint32_t base,
+                         char *out, size_t out_len, size_t *needed);
+
+/* The kind of the step between two versions, in either direction: that of the first number that differs, and of its pre-release if the
+ * higher version is one. From a pre-release to its own release it is the kind of that release, and from one of a major version to any
+ * release SEMVER_MAJOR. SEMVER_NO_DIFFERENCE if the versions have the same precedence. */
+int32_t semver_difference(const char *one, size_t one_len, const char *other, size_t other_len, size_t *place);
 
 /* Whether two ranges overlap by their bounds: NO or YES. Two tags do if they are the same, a tag and versions never. */
 int32_t semver_overlap(uint32_t grammar, const char *one, size_t one_len, const char *other, size_t other_len,

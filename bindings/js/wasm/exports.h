@@ -4,6 +4,14 @@ EXPORT(int32_t, fits)(uint32_t grammar, uint32_t range_len, uint32_t version_len
     WRITES(semver_fits(grammar, TEXT(0, range_len), TEXT(range_len, version_len), pre_releases, OUT, &needed));
 }
 
+EXPORT(int32_t, increment)(uint32_t release_type, uint32_t version_len, uint32_t identifiers_len, uint32_t base) {
+    WRITES(semver_increment(release_type, TEXT(0, version_len), TEXT(version_len, identifiers_len), base, OUT, &needed));
+}
+
+EXPORT(int32_t, difference)(uint32_t one_len, uint32_t other_len) {
+    return semver_difference(TEXT(0, one_len), TEXT(one_len, other_len), &place);
+}
+
 EXPORT(int32_t, compare)(uint32_t one_len, uint32_t other_len) {
     return semver_compare(TEXT(0, one_len), TEXT(one_len, other_len), &place);
 }

@@ -23,6 +23,8 @@ HANDLE = POINTER(Handle)
 
 TABLE: Dict[str, Tuple[Any, ...]] = {
     "fits": (c_int32, c_uint32, *TEXT, *TEXT, c_uint32, *TEXT, SIZE),
+    "increment": (c_int32, c_uint32, *TEXT, *TEXT, c_uint32, *TEXT, SIZE),
+    "difference": (c_int32, *TEXT, *TEXT, SIZE),
     "compare": (c_int32, *TEXT, *TEXT, SIZE),
     "overlap": (c_int32, c_uint32, *TEXT, *TEXT, SIZE),
     "within": (c_int32, c_uint32, *TEXT, *TEXT, c_uint32, *TEXT, SIZE, SIZE),

@@ -2,78 +2,14 @@
 use Rattle.std.proofs.Common.{◌≡◌, ◌∙◌, arith, ℕ, List, Ok, Err, Result, refl, sym, ap, subst, inl, inr, ◌⊎◌, ◌<◌, IfOk, IsErrAnd, IsUtf8, MatchResult}
 use Rattle.std.proofs.lemmas.Result.{err_from_is_err_and}
 use Rattle.std.specs.declared.alloc.AllocError.{AllocError}
-use Rattle.semver_req.specs.declared.common.values.Flavour.{Flavour}
-use Rattle.semver_req.specs.declared.common.values.Flavour.TheVariants.{Npm, Normal, Specifier}
 use Rattle.semver_req.specs.Viable.{IsErrorPlace, IsVersionText}
 use Rattle.answers.specs.AskingLaws.{answered, by_fault, by_value, fault_as_fault, fault_no_value, out_of_memory, same_fault, same_value, value_no_fault}
 use Rattle.answers.specs.Asking.{Fault, Given, Is, IsAnswer, IsOutcomeOf, OutOfMemory, fault_of, invalid, valid}
 use Rattle.answers.specs.declared.asking.Problem.{Problem as Unanswered}
 use Rattle.answers.specs.declared.asking.Problem.TheVariants as unanswered
-use Rattle.semver_c.specs.Arguments.{CallFault, Called, IsArgument, IsCallAnswer, IsGrammar, IsOnly, IsSubject, IsUtf8Text, NoGrammar, NotUtf8, call_fault, called, called_outcome, grammar, grammar_number, memory, no_grammar, no_subject, no_text, call_outcome, subject, subject_number, text}
+use Rattle.semver_c.specs.Arguments.{CallFault, Called, IsArgument, IsCallAnswer, IsOnly, IsUtf8Text, NotUtf8, call_fault, called, called_outcome, memory, no_text, call_outcome, text}
 use Rattle.semver_c.specs.declared.arguments.Problem.{Problem}
 use Rattle.semver_c.specs.declared.arguments.Problem.TheVariants as problem
-use Rattle.semver_c.specs.declared.arguments.Subject.{Subject}
-use Rattle.semver_c.specs.declared.arguments.Subject.TheVariants.{Package, Reference}
-
--- ---- grammars
-
-one_grammar : (f g : Flavour) → grammar_number f ≡ grammar_number g → f ≡ g
-one_grammar Npm Npm e = refl
-one_grammar Npm Normal e = absurd (omega (arith, e))
-one_grammar Npm Specifier e = absurd (omega (arith, e))
-one_grammar Normal Npm e = absurd (omega (arith, e))
-one_grammar Normal Normal e = refl
-one_grammar Normal Specifier e = absurd (omega (arith, e))
-one_grammar Specifier Npm e = absurd (omega (arith, e))
-one_grammar Specifier Normal e = absurd (omega (arith, e))
-one_grammar Specifier Specifier e = refl
-
-grammar_small : (f : Flavour) → grammar_number f < 3
-grammar_small Npm = omega arith
-grammar_small Normal = omega arith
-grammar_small Specifier = omega arith
-
-module _ (number : ℕ) where
-  pub grammar_found : (f : Flavour) → number ≡ grammar_number f → IsOnly (IsGrammar number) (Ok f)
-  grammar_found f e = (grammar e, λ o a. only o a)
-    where
-      only : (o : Result Flavour CallFault) → IsGrammar number o → Ok f ≡ o
-      only o (grammar {f = g} k) = ap Ok (one_grammar f g (sym e ∙ k))
-      only o (no_grammar more) = absurd (let small = grammar_small f in omega (arith, e, small, more))
-
-  pub grammar_missing : 2 < number → IsOnly (IsGrammar number) (Err NoGrammar)
-  grammar_missing more = (no_grammar more, λ o a. only o a)
-    where
-      only : (o : Result Flavour CallFault) → IsGrammar number o → Err NoGrammar ≡ o
-      only o (grammar {f = g} k) = absurd (let small = grammar_small g in omega (arith, k, small, more))
-      only o (no_grammar other) = refl
-
--- ---- subjects
-
-one_subject : (s t : Subject) → subject_number s ≡ subject_number t → s ≡ t
-one_subject Package Package e = refl
-one_subject Package Reference e = absurd (omega (arith, e))
-one_subject Reference Package e = absurd (omega (arith, e))
-one_subject Reference Reference e = refl
-
-subject_small : (s : Subject) → subject_number s < 2
-subject_small Package = omega arith
-subject_small Reference = omega arith
-
-module _ (number : ℕ) where
-  pub subject_found : (s : Subject) → number ≡ subject_number s → IsOnly (IsSubject number) (Ok s)
-  subject_found s e = (subject e, λ o a. only o a)
-    where
-      only : (o : Result Subject CallFault) → IsSubject number o → Ok s ≡ o
-      only o (subject {s = t} k) = ap Ok (one_subject s t (sym e ∙ k))
-      only o (no_subject more) = absurd (let small = subject_small s in omega (arith, e, small, more))
-
-  pub subject_missing : 1 < number → IsOnly (IsSubject number) (Err NoGrammar)
-  subject_missing more = (no_subject more, λ o a. only o a)
-    where
-      only : (o : Result Subject CallFault) → IsSubject number o → Err NoGrammar ≡ o
-      only o (subject {s = t} k) = absurd (let small = subject_small t in omega (arith, k, small, more))
-      only o (no_subject other) = refl
 
 -- ---- texts
 

@@ -1,9 +1,14 @@
 -- The arguments of a call, in which a grammar is a number and a text is bytes, and why a call has no result.
-use Rattle.std.specs.Prelude.{◌≡◌, ◌⊎◌, ◌==◌, ◌<◌, ℕ, List, Result, Ok, Err, codes, if◌then◌else◌, IsUtf8}
+use Rattle.std.specs.Prelude.{◌≡◌, ◌⊎◌, ◌==◌, ◌∷◌, ℕ, List, [], Option, Some, None, Result, Ok, Err, codes, if◌then◌else◌, IsUtf8}
+use Rattle.std.specs.List.{slice_get}
 use Rattle.semver_base.specs.declared.range.PreRelease.{PreRelease}
 use Rattle.semver_base.specs.declared.range.PreRelease.TheVariants.{Restricted, Admitted}
 use Rattle.semver_req.specs.declared.common.values.Flavour.{Flavour}
 use Rattle.semver_req.specs.declared.common.values.Flavour.TheVariants.{Npm, Normal, Specifier}
+use Rattle.node_semver.specs.declared.increment.Base.{Base}
+use Rattle.node_semver.specs.declared.increment.Base.TheVariants as base
+use Rattle.node_semver.specs.declared.release_type.ReleaseType.{ReleaseType}
+use Rattle.node_semver.specs.declared.release_type.ReleaseType.TheVariants as type
 use Rattle.answers.specs.Asking.{Fault, Invalid, IsOutcomeOf, OutOfMemory, fault_message, fault_of}
 use Rattle.semver_c.specs.declared.arguments.Problem.{Problem}
 use Rattle.semver_c.specs.declared.arguments.Problem.TheVariants as problem
@@ -82,26 +87,30 @@ problem_place (Err p) other = fault_place (call_fault p) other
 
 -- ---- arguments
 
--- the numbers of grammars: 0 npm's, 1 the normalized one, 2 the strict one
-abbrev pub grammar_number : Flavour → ℕ
-grammar_number Npm = 0
-grammar_number Normal = 1
-grammar_number Specifier = 2
+-- what there is, or that there is none
+abbrev pub or_none : {X : Type 0} → Option X → Result X CallFault
+or_none (Some x) = Ok x
+or_none None = Err NoGrammar
 
--- the grammar with this number
-pub data IsGrammar (number : ℕ) : Result Flavour CallFault → Type 0 where
-  grammar : {f : Flavour} → number ≡ grammar_number f → IsGrammar number (Ok f)
-  no_grammar : 2 < number → IsGrammar number (Err NoGrammar)
+-- what has the number in a list, counted from 0
+abbrev pub IsNumbered : {X : Type 0} → List X → ℕ → Result X CallFault → Type 0
+IsNumbered all number outcome = outcome ≡ or_none (slice_get all number)
 
--- the numbers of what a text is: 0 a package, 1 a reference
-abbrev pub subject_number : Subject → ℕ
-subject_number Package = 0
-subject_number Reference = 1
+-- the grammars: npm's, the normalized and the strict one
+abbrev pub grammars : List Flavour
+grammars = Npm ∷ Normal ∷ Specifier ∷ []
 
--- the subject with this number
-pub data IsSubject (number : ℕ) : Result Subject CallFault → Type 0 where
-  subject : {s : Subject} → number ≡ subject_number s → IsSubject number (Ok s)
-  no_subject : 1 < number → IsSubject number (Err NoGrammar)
+-- what a text is
+abbrev pub subjects : List Subject
+subjects = Package ∷ Reference ∷ []
+
+-- the kinds of releases
+abbrev pub release_types : List ReleaseType
+release_types = type.Major ∷ type.Minor ∷ type.Patch ∷ type.PreMajor ∷ type.PreMinor ∷ type.PrePatch ∷ type.PreRelease ∷ type.Release ∷ []
+
+-- the numbers behind the identifiers of a first pre-release
+abbrev pub bases : List Base
+bases = base.Zero ∷ base.One ∷ base.Nothing ∷ []
 
 -- bytes that are a text
 pub data IsUtf8Text (bytes : List ℕ) : Result (List ℕ) CallFault → Type 0 where

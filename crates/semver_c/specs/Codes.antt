@@ -4,6 +4,8 @@ use Rattle.std.specs.declared.cmp.Ordering.{Ordering}
 use Rattle.std.specs.declared.cmp.Ordering.TheVariants.{Less, Equal, Greater}
 use Rattle.semver_base.specs.VersionText.{version_text}
 use Rattle.semver_base.specs.declared.version.Version.{Version}
+use Rattle.node_semver.specs.declared.release_type.ReleaseType.{ReleaseType}
+use Rattle.node_semver.specs.declared.release_type.ReleaseType.TheVariants as type
 use Rattle.answers.specs.Asking.{Invalid, OutOfMemory}
 use Rattle.answers.specs.declared.asking.Answer.{Answer}
 use Rattle.answers.specs.declared.asking.Answer.TheVariants.{Value, Tag}
@@ -16,6 +18,17 @@ use Rattle.semver_c.specs.declared.codes.Code.TheVariants as code
 use Rattle.semver_c.specs.declared.questions.Numbers.{Numbers}
 
 -- ---- numbers: 0 and above for an answer, negative for none
+
+-- the number of a kind of release
+abbrev pub kind_number : ReleaseType → ℤ
+kind_number type.Major = pos 0
+kind_number type.Minor = pos 1
+kind_number type.Patch = pos 2
+kind_number type.PreMajor = pos 3
+kind_number type.PreMinor = pos 4
+kind_number type.PrePatch = pos 5
+kind_number type.PreRelease = pos 6
+kind_number type.Release = pos 7
 
 -- the number of a code
 abbrev pub number_of : Code → ℤ
@@ -31,6 +44,9 @@ number_of code.NotUtf8 = negsuc 3
 number_of code.NoGrammar = negsuc 4
 number_of code.NoMemory = negsuc 5
 number_of code.NoValue = negsuc 6
+number_of code.NoStep = negsuc 7
+number_of (code.Kind (Some t)) = kind_number t
+number_of (code.Kind None) = pos 8
 
 abbrev pub yes : ℤ
 yes = number_of code.Yes
@@ -46,6 +62,7 @@ kind_code kind.Range = code.InvalidRange
 kind_code kind.Version = code.InvalidVersion
 kind_code kind.Package = code.InvalidRange
 kind_code kind.Reference = code.InvalidRange
+kind_code kind.Step = code.NoStep
 
 -- the code of a fault
 abbrev pub fault_code : CallFault → Code

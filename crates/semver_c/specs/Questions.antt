@@ -17,11 +17,12 @@ use Rattle.answers.specs.Questions.{BestMatch, Common, Equivalent, Matches, Outs
 use Rattle.answers.specs.Reading.{IsRangeAt, IsVersionAt}
 use Rattle.package_answers.specs.References.{IsReferenceErrorsText}
 use Rattle.answers.specs.Sorting.{Sorts}
+use Rattle.answers.specs.Steps.{Increments}
 use Rattle.answers.specs.declared.asking.Answer.{Answer}
 use Rattle.answers.specs.declared.questions.Best.{Best}
 use Rattle.answers.specs.declared.questions.End.{End}
 use Rattle.answers.specs.declared.sorting.Order.TheVariants.{Ascending}
-use Rattle.semver_c.specs.Arguments.{CallFault, Called, IsSubject, IsUtf8Text, pre_release_by}
+use Rattle.semver_c.specs.Arguments.{CallFault, Called, IsNumbered, IsUtf8Text, bases, pre_release_by, release_types, subjects}
 use Rattle.semver_c.specs.Codes.{match_code}
 use Rattle.semver_c.specs.Given.{IsWithText, IsWithTexts}
 use Rattle.semver_c.specs.declared.arguments.Subject.{Subject}
@@ -48,6 +49,11 @@ abbrev pub OfTexts : {Y : Type 0} → List ℕ → List ℕ → (List ℕ → Li
 OfTexts one other Asked = Given (IsUtf8Text one) (λ text. Given (IsUtf8Text other) (λ more. Called (Asked text more)))
 
 -- ---- the calls
+
+-- `semver_increment`
+abbrev pub IncrementBy : ℕ → List ℕ → List ℕ → ℕ → Result (List ℕ) CallFault → Type 0
+IncrementBy kind version identifiers number = Given (IsNumbered release_types kind)
+    (λ t. Given (IsNumbered bases number) (λ b. OfTexts version identifiers (Increments t b)))
 
 -- `semver_fits`
 abbrev pub Fits : ℕ → ℕ → List ℕ → List ℕ → Result (Answer Bool) CallFault → Type 0
@@ -96,7 +102,7 @@ IsFaultOf Reference f text = IsReferenceFault text
 
 -- `semver_why`
 abbrev pub WhyBy : ℕ → ℕ → List ℕ → Result (Option (List ℕ)) CallFault → Type 0
-WhyBy what g text = Given (IsSubject what)
+WhyBy what g text = Given (IsNumbered subjects what)
     (λ s. ByOne g text (λ f t outcome. (fault : Option (List ℕ)) × IsFaultOf s f t fault × (outcome ≡ Ok fault)))
 
 -- what a range means

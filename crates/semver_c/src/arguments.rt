@@ -3,7 +3,7 @@
 ghost use Rattle.std.specs.Prelude.{◌≡◌, IfOk, map};
 ghost use Rattle.std.specs.Str.Lines.{lines};
 ghost use Rattle.answers.specs.declared.asking.Problem.TheVariants as unanswered;
-ghost use Rattle.semver_c.specs.Arguments.{IsArgument, IsGrammar, IsSubject, IsUtf8Text, call_fault, call_message, fault_place, pre_release_by};
+ghost use Rattle.semver_c.specs.Arguments.{IsArgument, IsNumbered, IsUtf8Text, bases, call_fault, call_message, fault_place, grammars, pre_release_by, release_types, subjects};
 ghost use Rattle.semver_c.specs.Given.{IsWithText, IsWithTexts, text_given, texts_given};
 ghost use Rattle.semver_c.specs.Codes.{fault_code};
 ghost use Rattle.semver_c.specs.declared.arguments.Problem.TheVariants as problem;
@@ -11,6 +11,8 @@ ghost use Rattle.semver_c.specs.declared.arguments.Problem.TheVariants as proble
 use crate::codes::Code;
 use answers::asking::{Kind, Problem as Unanswered};
 use deno_semver::PreRelease;
+use node_semver::increment::Base;
+use node_semver::release_type::ReleaseType;
 use semver_req::common::values::Flavour;
 use std::alloc::{AllocError, Global};
 use std::str;
@@ -20,7 +22,7 @@ use std::str;
 pub enum Problem {
     /// The question about its texts has no result.
     Unanswered(Unanswered),
-    /// No grammar, or no subject, has this number.
+    /// No grammar, or whatever else is chosen by a number, has this one.
     NoGrammar,
     NotUtf8,
     /// A handle holds no value of the kind that is asked about.
@@ -52,6 +54,7 @@ impl Problem {
             Problem::Unanswered(Unanswered::Invalid(argument)) => match argument.kind {
                 Kind::Version => Code::InvalidVersion,
                 Kind::Range | Kind::Package | Kind::Reference => Code::InvalidRange,
+                Kind::Step => Code::NoStep,
             },
             Problem::Unanswered(Unanswered::OutOfMemory) => Code::NoMemory,
             Problem::NoGrammar => Code::NoGrammar,
@@ -86,16 +89,18 @@ impl Problem {
     }
 }
 
+// What has this number in a list, counted from 0.
+fn numbered<T: Copy>(all: &[T], number: u32) -> Result<T, Problem>
+    ensures { IsArgument (IsNumbered all.now number) (λ found. found) result }
+{
+    all.get(number as usize).copied().ok_or(Problem::NoGrammar)
+}
+
 /// The grammar of this number.
 fn flavour(number: u32) -> Result<Flavour, Problem>
-    ensures { IsArgument (IsGrammar number) (λ flavour. flavour) result }
+    ensures { IsArgument (IsNumbered grammars number) (λ flavour. flavour) result }
 {
-    match number {
-        0 => Ok(Flavour::Npm),
-        1 => Ok(Flavour::Normal),
-        2 => Ok(Flavour::Specifier),
-        _ => Err(Problem::NoGrammar),
-    }
+    numbered(&[Flavour::Npm, Flavour::Normal, Flavour::Specifier], number)
 }
 
 /// What a text is: a package, or a reference to one.
@@ -107,13 +112,33 @@ pub enum Subject {
 
 /// The subject of this number.
 pub fn subject_of(number: u32) -> Result<Subject, Problem>
-    ensures { IsArgument (IsSubject number) (λ subject. subject) result }
+    ensures { IsArgument (IsNumbered subjects number) (λ subject. subject) result }
 {
-    match number {
-        0 => Ok(Subject::Package),
-        1 => Ok(Subject::Reference),
-        _ => Err(Problem::NoGrammar),
-    }
+    numbered(&[Subject::Package, Subject::Reference], number)
+}
+
+/// The kind of release of this number.
+pub fn release_type_of(number: u32) -> Result<ReleaseType, Problem>
+    ensures { IsArgument (IsNumbered release_types number) (λ kind. kind) result }
+{
+    let all = [
+        ReleaseType::Major,
+        ReleaseType::Minor,
+        ReleaseType::Patch,
+        ReleaseType::PreMajor,
+        ReleaseType::PreMinor,
+        ReleaseType::PrePatch,
+        ReleaseType::PreRelease,
+        ReleaseType::Release,
+    ];
+    numbered(&all, number)
+}
+
+/// Where the numbers of pre-releases begin, by this number.
+pub fn base_of(number: u32) -> Result<Base, Problem>
+    ensures { IsArgument (IsNumbered bases number) (λ base. base) result }
+{
+    numbered(&[Base::Zero, Base::One, Base::Nothing], number)
 }
 
 /// Which pre-releases match: at 0 by npm's rule, at any other number all between the bounds.

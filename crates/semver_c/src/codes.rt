@@ -1,10 +1,27 @@
 //! Codes: what a call returns.
 
 ghost use Rattle.std.specs.Prelude.{◌≡◌};
-ghost use Rattle.semver_c.specs.Codes.{bool_code, match_code, number_of, order_code};
+ghost use Rattle.semver_c.specs.Codes.{bool_code, kind_number, match_code, number_of, order_code};
 
 use answers::asking::Answer;
+use node_semver::release_type::ReleaseType;
 use std::cmp::Ordering;
+
+// The number of a kind of release.
+fn kind_number(kind: ReleaseType) -> i8
+    ensures { result ≡ kind_number kind }
+{
+    match kind {
+        ReleaseType::Major => 0,
+        ReleaseType::Minor => 1,
+        ReleaseType::Patch => 2,
+        ReleaseType::PreMajor => 3,
+        ReleaseType::PreMinor => 4,
+        ReleaseType::PrePatch => 5,
+        ReleaseType::PreRelease => 6,
+        ReleaseType::Release => 7,
+    }
+}
 
 /// What a call returns: its answer, or why there is none.
 #[derive(Clone, Copy)]
@@ -24,6 +41,10 @@ pub enum Code {
     NoMemory,
     /// A handle is empty, or holds another kind of value.
     NoValue,
+    /// There is no next version, or the identifiers of its pre-release are invalid.
+    NoStep,
+    /// Of which kind a step is, or that there is none.
+    Kind(Option<ReleaseType>),
 }
 
 impl Code {
@@ -42,6 +63,9 @@ impl Code {
             Code::NoGrammar => -5,
             Code::NoMemory => -6,
             Code::NoValue => -7,
+            Code::NoStep => -8,
+            Code::Kind(Some(kind)) => kind_number(kind),
+            Code::Kind(None) => 8,
         }
     }
 

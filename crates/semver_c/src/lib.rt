@@ -16,6 +16,7 @@ ghost use Rattle.deno_semver.specs.ReqOrder.{inner_cmp};
 ghost use Rattle.answers.specs.Filtering.{list_matches};
 ghost use Rattle.answers.specs.Questions.{Canonical, Displayed, Orders, Overlaps, SortKeyOf, match_of};
 ghost use Rattle.answers.specs.Sorting.{SortedLines};
+ghost use Rattle.answers.specs.Steps.{Differs};
 ghost use Rattle.answers.specs.declared.questions.End.TheVariants as end;
 ghost use Rattle.answers.specs.declared.sorting.Order.TheVariants.{Ascending};
 ghost use Rattle.package_answers.specs.Packages.{IsPackage, PackageParts};
@@ -27,7 +28,7 @@ ghost use Rattle.package_answers.specs.References.{ReferenceParts};
 ghost use Rattle.semver_c.specs.Arguments.{pre_release_by};
 ghost use Rattle.semver_c.specs.Codes.{IsCode, IsPlaceReply, IsPlaced, IsReply, IsReported, IsUntouched, IsUntouchedWithoutValue, always_yes, as_place, best_code, best_place, bool_code, code_of, filter_code, filter_numbers, found_code, found_text, lowest_code, lowest_text, match_code, no_place, no_text, number_of, or_message, or_nothing, order_code, text_code, text_of, three_numbers, unqualified_code, yes};
 ghost use Rattle.semver_c.specs.Held.{AreHeldScans, IsHeld, IsHeldBest, IsHeldEqual, IsScansCode, OfHeld, of_both, of_one, range_in, scan_at, scan_code, scans_in, version_in, versions_in};
-ghost use Rattle.semver_c.specs.Questions.{BestLine, ByOne, ByTwo, CommonBy, CommonOfAll, EquivalentBy, ErrorsBy, ExplainsBy, ExportNameOf, Filters, Fits, LowestBy, MatchesHeld, NumbersOf, OfText, OfTexts, OutsideBy, PackageErrorsBy, RangeBy, ReferenceErrorsOf, SortsOf, TagBy, VersionErrorOf, VersionListOf, WhyBy};
+ghost use Rattle.semver_c.specs.Questions.{BestLine, ByOne, ByTwo, CommonBy, CommonOfAll, EquivalentBy, ErrorsBy, ExplainsBy, ExportNameOf, Filters, Fits, IncrementBy, LowestBy, MatchesHeld, NumbersOf, OfText, OfTexts, OutsideBy, PackageErrorsBy, RangeBy, ReferenceErrorsOf, SortsOf, TagBy, VersionErrorOf, VersionListOf, WhyBy};
 ghost use Rattle.semver_c.specs.declared.codes.Code.{Code};
 ghost use Rattle.semver_c.specs.declared.codes.Code.TheVariants as code;
 
@@ -46,11 +47,11 @@ use deno_semver::package::cmp_version_reqs;
 use handles::{Held, RequirementHandle, ScansHandle, VersionHandle, VersionListHandle};
 use questions::{
     best_held, best_line, canonical_form, canonical_held, common, common_of_all, dependency_of,
-    displayed_held, displayed_version, equivalent_ranges, errors_of, explanation_of,
-    export_name_of, filter, filter_held, fits, is_tag, key_held, key_of, lowest, match_code,
-    matches_held, name_with_version_of, names_tag, numbers_of, order_of, outside, overlap,
-    package_errors_of, package_of, ranges_of, read_list, read_package_of, read_range, read_version,
-    reference_errors_of, reference_of, sorted_held, sorted_lines, version_error_of,
+    difference_of, displayed_held, displayed_version, equivalent_ranges, errors_of, explanation_of,
+    export_name_of, filter, filter_held, fits, increment_of, is_tag, key_held, key_of, lowest,
+    match_code, matches_held, name_with_version_of, names_tag, numbers_of, order_of, outside,
+    overlap, package_errors_of, package_of, ranges_of, read_list, read_package_of, read_range,
+    read_version, reference_errors_of, reference_of, sorted_held, sorted_lines, version_error_of,
     version_parts_of, version_reference_of, why_invalid,
 };
 use reports::{
@@ -84,6 +85,47 @@ pub extern "C" fn semver_fits(
         }
         Err(problem) => report_problem(&problem, out, needed),
     }
+}
+
+/// The next version of a kind, as displayed: yes. A pre-release begins with the identifiers, which may be empty, and the number
+/// of `base`: 0, 1, or none at 2.
+#[unsafe(no_mangle)]
+pub extern "C" fn semver_increment(
+    alloc: Global,
+    release_type: u32,
+    version: &[u8],
+    identifiers: &[u8],
+    base: u32,
+    out: &mut [u8],
+    needed: &mut usize,
+) -> i32
+    ensures { IsReply (IncrementBy release_type version.now identifiers.now base) always_yes
+        (or_message (λ text. text)) out.old out.new needed.new result }
+{
+    let next = increment_of(alloc, release_type, version, identifiers, base);
+    report_text(next, out, needed)
+}
+
+/// Of which kind the step between two versions is, in either direction, or that they have the same precedence. With an invalid
+/// version `place` is which of the two it is.
+#[unsafe(no_mangle)]
+pub extern "C" fn semver_difference(
+    alloc: Global,
+    one: &[u8],
+    other: &[u8],
+    place: &mut usize,
+) -> i32
+    ensures code { IsCode (OfTexts one.now other.now Differs) code.Kind result }
+    ensures place { IsPlaceReply (OfTexts one.now other.now Differs) no_place
+        place.old place.new result }
+{
+    let answer = difference_of(alloc, one, other);
+    put_place(&answer, place);
+    let code = match answer {
+        Ok(kind) => Code::Kind(kind),
+        Err(problem) => problem.code(),
+    };
+    code.number()
 }
 
 /// The order of two versions, builds aside: before, same or after. With an invalid version `place` is which of the two it is.

@@ -9,6 +9,7 @@ ghost use Rattle.semver_req.specs.Requirement.{inner_text, tag_of};
 ghost use Rattle.answers.specs.Filtering.{list_answer, list_matches};
 ghost use Rattle.answers.specs.Questions.{Canonical, Displayed, Orders, Overlaps, SortKeyOf, match_of};
 ghost use Rattle.answers.specs.Sorting.{SortedLines};
+ghost use Rattle.answers.specs.Steps.{Differs};
 ghost use Rattle.answers.specs.declared.sorting.Order.TheVariants.{Ascending};
 ghost use Rattle.package_answers.specs.Packages.{IsPackage, PackageParts};
 ghost use Rattle.answers.specs.Parts.{RangeParts, VersionParts};
@@ -19,10 +20,11 @@ ghost use Rattle.package_answers.specs.References.{ReferenceParts};
 ghost use Rattle.semver_c.specs.Arguments.{IsCallAnswer, IsCallOutcome, pre_release_by};
 ghost use Rattle.semver_c.specs.Codes.{match_code};
 ghost use Rattle.semver_c.specs.Held.{IsHeldBest, OfHeld, of_both, of_one};
-ghost use Rattle.semver_c.specs.Questions.{BestLine, ByOne, ByTwo, CommonBy, CommonOfAll, EquivalentBy, ErrorsBy, ExplainsBy, ExportNameOf, Filters, Fits, LowestBy, MatchesHeld, NumbersOf, OfText, OfTexts, OutsideBy, PackageErrorsBy, RangeBy, ReferenceErrorsOf, SortsOf, TagBy, VersionErrorOf, VersionListOf, WhyBy};
+ghost use Rattle.semver_c.specs.Questions.{BestLine, ByOne, ByTwo, CommonBy, CommonOfAll, EquivalentBy, ErrorsBy, ExplainsBy, ExportNameOf, Filters, Fits, IncrementBy, LowestBy, MatchesHeld, NumbersOf, OfText, OfTexts, OutsideBy, PackageErrorsBy, RangeBy, ReferenceErrorsOf, SortsOf, TagBy, VersionErrorOf, VersionListOf, WhyBy};
 
 use crate::arguments::{
-    Problem, Subject, line_list, pre_release, subject_of, text, with_text, with_texts,
+    Problem, Subject, base_of, line_list, pre_release, release_type_of, subject_of, text,
+    with_text, with_texts,
 };
 use crate::codes::Code;
 use answers::asking::Answer;
@@ -36,9 +38,11 @@ use answers::questions::{
 };
 use answers::reading::{range, version};
 use answers::sorting::{self, Order, sort};
+use answers::steps::{difference, incremented};
 use deno_semver::jsr::normalized_export_name;
 use deno_semver::package::PackageReq;
 use deno_semver::{PreRelease, Version, VersionReq};
+use node_semver::release_type::ReleaseType;
 use package_answers::faults::{package_fault, reference_fault};
 use package_answers::names::name_with_version_parts;
 use package_answers::packages::{package_errors_text, package_parts, read_package};
@@ -170,6 +174,37 @@ pub fn sorted_lines(alloc: Global, versions: &[u8]) -> Result<Vec<usize>, Proble
     let text = text(versions)?;
     let lines = line_list(alloc, text)?;
     sort(alloc, lines.as_slice(), Order::Ascending).map_err(Problem::from)
+}
+
+/// What is the next version of this kind?
+pub fn increment_of(
+    alloc: Global,
+    release_type: u32,
+    version: &[u8],
+    identifiers: &[u8],
+    base: u32,
+) -> Result<String, Problem>
+    ensures { IsCallAnswer (IncrementBy release_type version.now identifiers.now base)
+        string_bytes result }
+{
+    let release_type = release_type_of(release_type)?;
+    let base = base_of(base)?;
+    let version = text(version)?;
+    let identifiers = text(identifiers)?;
+    incremented(alloc, release_type, version, identifiers, base).map_err(Problem::from)
+}
+
+/// Of which kind is the step between the two versions?
+pub fn difference_of(
+    alloc: Global,
+    one: &[u8],
+    other: &[u8],
+) -> Result<Option<ReleaseType>, Problem>
+    ensures { IsCallAnswer (OfTexts one.now other.now Differs) (λ kind. kind) result }
+{
+    let one = text(one)?;
+    let other = text(other)?;
+    difference(alloc, one, other).map_err(Problem::from)
 }
 
 /// Which of the two versions comes before the other?

@@ -1,0 +1,20 @@
+use Rattle.std.proofs.Common.{SFits, ap, rules, w32, ◌≡◌, ◌∙◌}
+use Rattle.std.proofs.lemmas.Int.{to_z-of_z}
+use Rattle.semver_c.specs.Codes.{code_of, number_of}
+use Rattle.semver_c.specs.declared.codes.Code.TheVariants as code
+use Rattle.semver_c.specs.Arguments.{call_outcome}
+use Rattle.semver_c.proofs.Replies.{coded_reply, placed_reply, unplaced}
+use Rattle.semver_c.proofs.semver_difference.Goals as goal
+
+pub returns-clause-code : goal.returns-clause-code
+returns-clause-code c =
+    let is : number_of c.match-answer.code ≡ code_of code.Kind (call_outcome (λ x. x) c.difference_of-answer.result) = search rules in
+    let fits : SFits w32 c.number.result = search rules in
+    rw (to_z-of_z w32 c.number.result fits) (coded_reply _ _ c.difference_of-answer.result c.difference_of-answer.ensures _ c.number.result (c.number.ensures ∙ is))
+
+pub returns-clause-place : goal.returns-clause-place
+returns-clause-place c =
+    let is : number_of c.match-answer.code ≡ code_of code.Kind (call_outcome (λ x. x) c.difference_of-answer.result) = search rules in
+    let fits : SFits w32 c.number.result = search rules in
+    rw (to_z-of_z w32 c.number.result fits) (placed_reply _ _ c.difference_of-answer.result c.difference_of-answer.ensures _ c.args.place.now c.put_place.new.place c.number.result (λ none. c.number.ensures ∙ is ∙ ap (code_of code.Kind) none)
+    (unplaced _ c.difference_of-answer.result c.args.place.now c.put_place.new.place c.put_place.ensures))
