@@ -108,6 +108,27 @@ function whyVersionDiffers(items) {
   return items.flat().some((item) => /\d{16}/.test(item)) ? LARGE : UNEXPLAINED;
 }
 
+const RELEASE_TYPES = ['major', 'minor', 'patch', 'premajor', 'preminor', 'prepatch', 'prerelease'];
+const IDENTIFIERS = [undefined, undefined, '', 'a', 'beta', 'rc', '1', 'a.1', 'a b'];
+const BASES = [undefined, '0', '1', false];
+const IS_OLD = release.startsWith('7.3.');
+
+function whyIncDiffers([item, type, identifier, base]) {
+  if (!type.startsWith('pre')) return whyVersionDiffers([item]);
+  if (identifier === 'a b') return 'identifiers that no version has';
+  if (identifier === 'a.1') return 'several identifiers';
+  if (IS_OLD && (base || base === false)) return 'a first number';
+  if (IS_OLD && identifier === '1') return 'an identifier that is a number';
+  return whyVersionDiffers([item]);
+}
+
+function whyDiffDiffers([one, other]) {
+  const [low, high] = [one, other].map((item) => semver.parse(item)).sort((a, b) => a && b && a.compare(b));
+  const isToRelease = low?.prerelease.length && high && !high.prerelease.length;
+  const isFromRelease = IS_OLD && low && high && !low.prerelease.length !== !high.prerelease.length;
+  return isToRelease || isFromRelease ? 'steps between releases and pre-releases' : whyVersionDiffers([one, other]);
+}
+
 // ---- the calls: what each is asked, and why an answer may differ
 
 const CALLS = {
@@ -122,6 +143,8 @@ const CALLS = {
   prerelease: [() => [version()], whyVersionDiffers],
   compare: [() => [version(), version()], whyVersionDiffers],
   compareBuild: [() => [version(), version()], whyVersionDiffers],
+  inc: [() => [version(), texts.pick(RELEASE_TYPES), texts.pick(IDENTIFIERS), texts.pick(BASES)], whyIncDiffers],
+  diff: [() => [version(), version()], whyDiffDiffers],
   sort: [() => [versions()], whyVersionDiffers],
   rsort: [() => [versions()], whyVersionDiffers],
 };

@@ -14,11 +14,12 @@ import sys
 import deno_semver as semver
 
 PRE = {"restricted": False, "admitted": True}
+BASES = {"zero": 0, "one": 1, "nothing": None}
 # How many options, a grammar and which pre-releases match, stand before the texts of a call.
 OPTIONS = {
     **dict.fromkeys(("fits", "filter", "best", "lowest", "within", "equivalent", "common", "common_all", "min_version", "explain", "scans"), 2),
     **dict.fromkeys(("overlap", "normal", "package", "equal", "is_tag", "ranges", "dependency", "errors", "package_errors"), 1),
-    **dict.fromkeys(("sort", "compare", "order", "version", "version_error", "may_be_tag", "reference", "reference_errors"), 0),
+    **dict.fromkeys(("sort", "increment", "difference", "compare", "order", "version", "version_error", "may_be_tag", "reference", "reference_errors"), 0),
     **dict.fromkeys(("version_parts", "name_with_version", "version_reference", "export_name", "key"), 0),
 }
 
@@ -162,6 +163,11 @@ def of_texts(name, texts, options):
         return place(texts[0], unique(listed(texts[1])), getattr(semver, name), options)
     if name == "sort":
         return places(unique(listed(texts[0])))
+    if name == "increment":
+        kind, base, version, identifier = texts
+        return ["yes", semver.increment(version, kind, identifier=identifier, base=BASES[base])]
+    if name == "difference":
+        return [semver.difference(*texts) or "none"]
     if name == "compare":
         return order(semver.compare(*texts))
     if name == "overlap":
@@ -237,6 +243,11 @@ def of_values(name, texts, options, again):
         return ["yes", range_of(0).canonical]
     if name == "is_tag":
         return yes_or_no(range_of(0).is_tag)
+    if name == "increment":
+        kind, base, _, identifier = texts
+        return ["yes", str(semver.increment(version_of(2), kind, identifier=identifier, base=BASES[base]))]
+    if name == "difference":
+        return [semver.difference(version_of(0), version_of(1)) or "none"]
     if name == "compare":
         one, other = version_of(0), version_of(1)
         return order(int(other.precedes(one)) - int(one.precedes(other)))
@@ -266,6 +277,8 @@ def answer(ask, *arguments):
         return ask(*arguments)
     except semver.TagError:
         return ["tag"]
+    except semver.IncrementError as error:
+        return ["no increment", error.message]
     except semver.InvalidVersion as error:
         return ["invalid version", error.message, error.index]
     except (semver.InvalidRange, semver.InvalidPackage) as error:
@@ -287,7 +300,7 @@ def is_same(name, way, got, wanted):
         return got == (wanted[:2] if name == "package" else wanted)
     code, message, index = got
     # A value knows no place among arguments, and a range that is the only one has none.
-    is_placed = way == "of texts" and not (name in ("best", "lowest") and code == "invalid range")
+    is_placed = way == "of texts" and name != "increment" and not (name in ("best", "lowest") and code == "invalid range")
     places = wanted[2:] if is_placed else []
     return wanted[:2] == [code, message] and places == ([] if index is None else [str(index)])
 

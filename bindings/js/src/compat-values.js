@@ -3,6 +3,7 @@
 import { NO, NO_MEMORY, YES, ask2, askCompare, outOfMemory, text, wasm, write } from './calls.js';
 import { kindOf } from './errors.js';
 import { askFits } from './held.js';
+import { askIncrement, isReleaseType, nextVersion } from './steps.js';
 import { partsOf } from './versions.js';
 
 const PAGE = 'NODE_SEMVER.md';
@@ -78,8 +79,17 @@ export class SemVer {
     return compareBuilds(this.build, semverOf(other).build);
   }
 
-  inc() {
-    throw new UnsupportedError('SemVer.inc()');
+  inc(releaseType, identifier, identifierBase) {
+    const { build, options, prerelease, version } = this;
+    const type = releaseType === 'pre' && prerelease.length > 0 ? 'prerelease' : releaseType;
+    if (type === 'pre') throw new UnsupportedError("inc('pre') of a release");
+    if (!isReleaseType(type)) throw new Error(`invalid increment argument: ${type}`);
+    const base = identifierBase === false ? false : Number(Boolean(Number(identifierBase)));
+    const code = askIncrement(version, type, identifier && type.startsWith('pre') ? String(identifier) : '', base);
+    Object.assign(this, new SemVer(nextVersion(code, text(), version), options));
+    this.build = build;
+    this.raw = [this.version, ...(build.length ? [build.join('.')] : [])].join('+');
+    return this;
   }
 
   format() {

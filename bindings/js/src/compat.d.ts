@@ -58,8 +58,8 @@ export class SemVer {
   comparePre(other: string | SemVer): -1 | 0 | 1;
   /** -1, 0 or 1, by the build. */
   compareBuild(other: string | SemVer): -1 | 0 | 1;
-  /** Left out: throws {@link UnsupportedError}. */
-  inc(...arguments_: unknown[]): never;
+  /** Makes this the next version of a kind; the build stays. */
+  inc(type: ReleaseType, identifier?: string, base?: IdentifierBase): this;
   /** The version without its build. */
   format(): string;
   /** The version without its build. */
@@ -163,10 +163,18 @@ export function intersects(one: string | Range, other: string | Range, options?:
 /** Whether `dom` matches each version that `sub` matches. */
 export function subset(sub: string | Range, dom: string | Range, options?: Loose): boolean;
 
-/** Left out: throws {@link UnsupportedError}. */
-export function inc(...arguments_: unknown[]): never;
-/** Left out: throws {@link UnsupportedError}. */
-export function diff(...arguments_: unknown[]): never;
+/** A kind of release, by which step a version comes next. */
+export type ReleaseType = 'major' | 'premajor' | 'minor' | 'preminor' | 'patch' | 'prepatch' | 'prerelease' | 'release';
+
+/** The first number of a pre-release; `false` for none. */
+export type IdentifierBase = '0' | '1' | false;
+
+/** The next version of a kind; null where there is none, or the version is invalid. */
+export function inc(version: string | SemVer, type: ReleaseType, options?: Loose, identifier?: string, base?: IdentifierBase): string | null;
+/** The same without options. */
+export function inc(version: string | SemVer, type: ReleaseType, identifier?: string, base?: IdentifierBase): string | null;
+/** Of which kind the step between two versions is; null if they have the same precedence. */
+export function diff(one: string | SemVer, other: string | SemVer): ReleaseType | null;
 /** Left out: throws {@link UnsupportedError}. */
 export function coerce(...arguments_: unknown[]): never;
 /** Left out: throws {@link UnsupportedError}. */

@@ -7,6 +7,7 @@ import {
 } from './compat-values.js';
 import { kindOf } from './errors.js';
 import { linesOf } from './lists.js';
+import { askDifference } from './steps.js';
 
 export { Range, SemVer, UnsupportedError, compareIdentifiers } from './compat-values.js';
 
@@ -190,6 +191,24 @@ export function minSatisfying(versions, range, options) {
   return find(wasm.lowest, versions, range, options);
 }
 
+// ---- the step to another version
+
+export function inc(version, releaseType, options, identifier, identifierBase) {
+  if (typeof options === 'string') return inc(version, releaseType, undefined, options, identifier);
+  const next = parse(version instanceof SemVer ? version.version : version, options);
+  try {
+    return next && next.inc(releaseType, identifier, identifierBase).version;
+  } catch (error) {
+    if (error instanceof UnsupportedError || error instanceof RangeError) throw error;
+    return null;
+  }
+}
+
+export function diff(one, other) {
+  const [first, second] = [one, other].map((version) => parse(version, undefined, true));
+  return askDifference(first.version, second.version);
+}
+
 // ---- ranges
 
 /** The text of a valid range; undefined for anything else. */
@@ -226,14 +245,6 @@ export function subset(sub, dom, options) {
 }
 
 // ---- left out
-
-export function inc() {
-  throw new UnsupportedError('inc()');
-}
-
-export function diff() {
-  throw new UnsupportedError('diff()');
-}
 
 export function coerce() {
   throw new UnsupportedError('coerce()');

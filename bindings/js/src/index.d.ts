@@ -209,6 +209,38 @@ export function sort<T extends string | Version>(versions: readonly T[]): T[];
 /** -1, 0 or 1: the order of two versions by precedence, which ignores the build. */
 export function compare(one: string | Version, other: string | Version): -1 | 0 | 1;
 
+/** A kind of release, by which step a version comes next; those with `pre` are a pre-release of the next one of their kind. */
+export type ReleaseType = 'major' | 'minor' | 'patch' | 'premajor' | 'preminor' | 'prepatch' | 'prerelease' | 'release';
+
+/** How a pre-release begins. */
+export interface PreReleaseStart {
+  /** Its identifiers, with `.` between them. None by default. */
+  identifier?: string;
+  /** The number behind them; `false` for none. 0 by default. */
+  base?: 0 | 1 | false;
+}
+
+/** No version follows: a number is too large, a release has no release, or the pre-release would be empty, invalid or the same. */
+export class IncrementError extends Error {
+  /** The version. */
+  version: string;
+}
+
+/**
+ * The next version of a kind, without a build. The next release of a pre-release may be its own: `patch` of `1.2.3-rc.1` is `1.2.3`.
+ * A pre-release is raised in its last number, if it begins with the identifier and goes on with a number, or if none is given.
+ * @example increment('1.2.3', 'prerelease', { identifier: 'beta' }) // '1.2.4-beta.0'
+ * @throws {@link VersionSyntaxError} {@link IncrementError}
+ */
+export function increment(version: string | Version, releaseType: ReleaseType, options?: PreReleaseStart): string;
+
+/**
+ * Of which kind the step between two versions is, in either direction; `null` if they have the same precedence.
+ * @example difference('1.2.3', '1.3.0-rc.1') // 'preminor'
+ * @throws {@link VersionSyntaxError}
+ */
+export function difference(one: string | Version, other: string | Version): Exclude<ReleaseType, 'release'> | null;
+
 /** Whether `other` matches each version that `one` matches. */
 export function isSubset(one: string, other: string, options?: Options): boolean;
 

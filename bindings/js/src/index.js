@@ -1,16 +1,18 @@
 // Versions and version ranges of npm and JSR.
 
-import { NO, NO_MEMORY, TAG, YES, ask1, ask2, indexesOfBytes, json, outOfMemory, text, wasm, write } from './calls.js';
+import { INVALID_VERSION, NO, NOT_UTF8, NO_MEMORY, TAG, YES, ask1, ask2, indexesOfBytes, json, outOfMemory, text, wasm, write } from './calls.js';
 import {
   DEPENDENCY, NAME_WITH_VERSION, PACKAGE, RANGE, REFERENCE, VERSION_REFERENCE, errorOf, expectString, invalid, kindOf, optionsOf, reasonOf,
   withIndexes,
 } from './errors.js';
 import { askFits } from './held.js';
 import { filterList, findInList, linesOf, sortList } from './lists.js';
+import { askDifference, askIncrement, isReleaseType, nextVersion } from './steps.js';
 import { Version, compareTexts, versionText } from './versions.js';
 
 export { PackageSyntaxError, RangeSyntaxError, TagError, VersionSyntaxError } from './errors.js';
 export { Range, VersionList } from './ranges.js';
+export { IncrementError } from './steps.js';
 export { Version } from './versions.js';
 
 export function matches(range, version, options) {
@@ -43,6 +45,25 @@ export function sort(versions) {
 export function compare(one, other) {
   if (one instanceof Version) return one.compare(other);
   return compareTexts(versionText(one, 'one'), versionText(other, 'other'));
+}
+
+export function increment(version, releaseType, options = {}) {
+  const source = versionText(version, 'version');
+  if (!isReleaseType(releaseType)) throw new TypeError(`releaseType must be one of node-semver's, not ${String(releaseType)}`);
+  if (options === null || typeof options !== 'object') throw new TypeError(`options must be an object, not ${kindOf(options)}`);
+  const { identifier = '', base = 0 } = options;
+  if (base !== 0 && base !== 1 && base !== false) throw new TypeError(`options.base must be 0, 1 or false, not ${String(base)}`);
+  const code = askIncrement(source, releaseType, expectString(identifier, 'options.identifier'), base);
+  const written = text();
+  if (code === INVALID_VERSION || code === NOT_UTF8) new Version(source); // which throws if this is the one that is invalid
+  return nextVersion(code, written, source);
+}
+
+export function difference(one, other) {
+  const texts = [versionText(one, 'one'), versionText(other, 'other')];
+  const kind = askDifference(...texts);
+  if (kind === undefined) compareTexts(...texts); // which throws
+  return kind;
 }
 
 /** Asks about two ranges; the answer is yes or no. */

@@ -8,13 +8,13 @@ import compat from '../out/package/compat.js';
 
 const require = createRequire(import.meta.url);
 const { Comparator, Range, SemVer, UnsupportedError } = compat;
-const LEFT_OUT = ['inc', 'diff', 'coerce', 'outside', 'gtr', 'ltr', 'simplifyRange', 'toComparators'];
+const LEFT_OUT = ['coerce', 'outside', 'gtr', 'ltr', 'simplifyRange', 'toComparators'];
 const INTERNAL = ['re', 'src', 'tokens'];
 const installed = (process.env.NODE_SEMVERS ?? '').split(':').filter((folder) => folder && existsSync(folder));
 
 test('what is left out throws, and names the page', () => {
   const calls = LEFT_OUT.map((name) => () => compat[name]('1.0.0', '2.0.0'));
-  calls.push(() => new Comparator('>1'), () => new SemVer('1.0.0').inc('major'), () => new Range('1').set);
+  calls.push(() => new Comparator('>1'), () => new SemVer('1.0.0').inc('pre'), () => new Range('1').set);
   for (const call of calls) {
     assert.throws(call, (error) => error instanceof UnsupportedError && error.message.includes('NODE_SEMVER.md'), String(call));
   }

@@ -86,6 +86,8 @@ static int32_t ask(void) {
     ASK(common, FIRST, a, b, LAST);
     ASK(equivalent, FIRST, a, b, LAST);
     ASK(overlap, FIRST, a, b);
+    ASK(increment, FIRST, a, b, LAST);
+    ASK(difference, a, b);
     ASK(compare, a, b);
     ASK(sort, a, LAST);
     ASK(min_version, FIRST, a, LAST);

@@ -19,6 +19,8 @@ const textOr = (text) => (text === undefined ? ['no'] : ['yes', text]);
 const placeOr = (list, item) => (item === undefined ? ['no'] : ['yes', String(list.indexOf(item))]);
 const orderOf = (order) => [{ '-1': 'before', 0: 'same', 1: 'after' }[order]];
 
+const BASES = { zero: 0, one: 1, nothing: false };
+
 /** The JSON of the C API, from the parts that this package returns. */
 function packageJson({ scope, name, range, canonical }) {
   return { name, normal: canonical, requirement: range, scope };
@@ -107,6 +109,8 @@ function sortedPlaces(lines, sorted) {
 const CALLS = {
   sort: (text) => sortedPlaces(linesOf(text), semver.sort(linesOf(text))),
   list_sort: (text) => sortedPlaces(linesOf(text), new semver.VersionList(linesOf(text)).sort()),
+  increment: (type, base, version, identifier) => ['yes', semver.increment(version, type, { identifier, base: BASES[base] ?? base })],
+  difference: (one, other) => [semver.difference(one, other) ?? 'none'],
   compare: (one, other) => orderOf(new Version(one).compare(other)),
   version: (text) => ['yes', String(new Version(text))],
   key: (text) => ['yes', new Version(text).sortKey],
@@ -146,10 +150,12 @@ function thrown(call) {
 /** What the table has for this error. */
 function problem(error, texts) {
   if (error.name === 'TagError') return ['tag'];
+  if (/lone surrogate|valid UTF-8/.test(error.message)) return ['invalid UTF-8'];
+  if (error.name === 'IncrementError') return ['no increment', error.message];
   if (error.name === 'TypeError') return ['unknown grammar'];
-  if (/lone surrogate/.test(error.message)) return ['invalid UTF-8'];
   const name = error.name === 'VersionSyntaxError' ? 'invalid version' : 'invalid range';
-  return [name, error.message, String(error.index ?? texts.indexOf(error.text))];
+  const given = texts.length === 4 ? [texts[2]] : texts; // of `increment`, whose version stands behind a kind and a base
+  return [name, error.message, String(error.index ?? given.indexOf(error.text))];
 }
 
 /** Whether the package answers in another way. */

@@ -15,7 +15,7 @@ that of package specifiers. With `pre_releases` every pre-release between the bo
 a bound is a pre-release of its three numbers.
 """
 
-from ._errors import InvalidPackage, InvalidRange, InvalidVersion, SemverError, TagError
+from ._errors import IncrementError, InvalidPackage, InvalidRange, InvalidVersion, SemverError, TagError
 from ._functions import (
     Alternative,
     Bound,
@@ -25,15 +25,18 @@ from ._functions import (
     NameWithVersion,
     Package,
     Reference,
+    ReleaseType,
     VersionReference,
     best,
     bounds,
     canonical,
     common,
     compare,
+    difference,
     explain,
     export_name,
     filter,
+    increment,
     is_equivalent,
     is_subset,
     lowest,
@@ -59,6 +62,7 @@ __all__ = [
     "Bounds",
     "Dependency",
     "Explanation",
+    "IncrementError",
     "InvalidPackage",
     "InvalidRange",
     "InvalidVersion",
@@ -66,6 +70,7 @@ __all__ = [
     "Package",
     "Range",
     "Reference",
+    "ReleaseType",
     "Scan",
     "SemverError",
     "TagError",
@@ -76,9 +81,11 @@ __all__ = [
     "canonical",
     "common",
     "compare",
+    "difference",
     "explain",
     "export_name",
     "filter",
+    "increment",
     "is_equivalent",
     "is_subset",
     "lowest",

@@ -14,6 +14,7 @@ from ._table import HANDLE, TABLE, Handle
 
 NO, YES = 0, 1
 TAG, INVALID_RANGE, INVALID_VERSION, NOT_UTF8, NO_GRAMMAR, NO_MEMORY = -1, -2, -3, -4, -5, -6
+NO_INCREMENT = -8
 
 GRAMMARS = {"npm": 0, "normalized": 1, "strict": 2}
 

@@ -58,6 +58,10 @@ class InvalidVersion(SemverError):
     """A text isn't a version."""
 
 
+class IncrementError(SemverError):
+    """No version follows: a number is too large, a release has no release, or the pre-release would be empty, invalid or the same."""
+
+
 class InvalidPackage(SemverError):
     """A text isn't a package with a range, or a reference to one."""
 

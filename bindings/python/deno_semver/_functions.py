@@ -4,13 +4,14 @@ from __future__ import annotations
 
 import json
 from ctypes import byref, c_int8, c_size_t
-from typing import Any, Dict, Iterable, List, Literal, NamedTuple, NoReturn, Optional, Tuple, TypeVar, Union
+from typing import Any, Dict, Iterable, List, Literal, NamedTuple, NoReturn, Optional, Tuple, TypeVar, Union, get_args
 
 from ._calls import (
     CALLS,
     INVALID_RANGE,
     INVALID_VERSION,
     NO,
+    NO_INCREMENT,
     YES,
     encoded,
     fail_package,
@@ -20,8 +21,9 @@ from ._calls import (
     invalid_range,
     pre_number,
     read,
+    wrong_type,
 )
-from ._errors import InvalidPackage, InvalidRange, InvalidVersion, SemverError
+from ._errors import IncrementError, InvalidPackage, InvalidRange, InvalidVersion, SemverError
 from ._values import Range, Version, range_text
 
 AnyRange = Union[str, Range]
@@ -157,6 +159,55 @@ def compare(one: AnyVersion, other: AnyVersion) -> int:
     code = CALLS["compare"](texts[0], len(texts[0]), texts[1], len(texts[1]), byref(place))
     if code >= 0:
         return int(code) - 1
+    return fail_version(code, str(other if place.value else one), place.value)
+
+
+ReleaseType = Literal["major", "minor", "patch", "premajor", "preminor", "prepatch", "prerelease", "release"]
+
+_RELEASE_TYPES = get_args(ReleaseType)
+_BASES = {0: 0, 1: 1, None: 2}
+
+
+def increment(version: V, release_type: ReleaseType, *, identifier: str = "", base: Optional[int] = 0) -> V:
+    """The next version of a kind, without a build. A pre-release begins with the identifier and with `base`, 0, 1 or no number.
+
+    The next release of a pre-release may be its own. A pre-release is raised in its last number, if it begins with the identifier and goes
+    on with a number, or if none is given.
+
+    >>> increment("1.2.3", "prerelease", identifier="beta")
+    '1.2.4-beta.0'
+    >>> increment("1.2.3-rc.1", "patch")
+    '1.2.3'
+    """
+    source, identifiers = _version_text(version, "version"), encoded(identifier, "identifier", IncrementError)
+    if not isinstance(release_type, str):
+        wrong_type(release_type, "release_type", "str")
+    if release_type not in _RELEASE_TYPES:
+        raise ValueError(f"release_type must be one of {', '.join(_RELEASE_TYPES)}, not {release_type!r}")
+    if base is not None and (isinstance(base, bool) or not isinstance(base, int)):
+        wrong_type(base, "base", "int or None")
+    if base not in _BASES:
+        raise ValueError(f"base must be 0, 1 or None, not {base!r}")
+    code, written = read(
+        "increment", _RELEASE_TYPES.index(release_type), source, len(source), identifiers, len(identifiers), _BASES[base]
+    )
+    if code == NO_INCREMENT:
+        raise IncrementError(written, str(version))
+    if code != YES:
+        fail_version(code, str(version))
+    return Version(written) if isinstance(version, Version) else written
+
+
+def difference(one: AnyVersion, other: AnyVersion) -> Optional[ReleaseType]:
+    """Of which kind the step between two versions is, in either direction; None if they have the same precedence.
+
+    >>> difference("1.2.3", "1.3.0-rc.1")
+    'preminor'
+    """
+    texts, place = (_version_text(one, "one"), _version_text(other, "other")), c_size_t()
+    code = CALLS["difference"](texts[0], len(texts[0]), texts[1], len(texts[1]), byref(place))
+    if code >= 0:
+        return _RELEASE_TYPES[code] if code < len(_RELEASE_TYPES) else None
     return fail_version(code, str(other if place.value else one), place.value)
 
 

@@ -243,6 +243,7 @@ class Errors(unittest.TestCase):
 
 class Arguments(unittest.TestCase):
     GOOD = {"grammar": "npm", "pre_releases": False, "skip_invalid": False, "reverse": False, "versions": ["1.0.0"], "text": "npm:a@1.0.0"}
+    GOOD.update(release_type="patch", identifier="", base=0)
 
     def test_each_parameter(self):
         functions = [getattr(semver, name) for name in semver.__all__ if inspect.isfunction(getattr(semver, name))]
@@ -253,10 +254,19 @@ class Arguments(unittest.TestCase):
                 good = {key: self.GOOD.get(key, "1.0.0") for key in inspect.signature(function).parameters}
                 good.pop("ranges", None)
                 wrong = (1, "yes", 1.0) if name == "pre_releases" else (3, b"1", 1.0, ["1"], object())
+                if name == "base":
+                    wrong = ("0", 1.0, True)
                 for value in wrong if name != "versions" else (3, "1.0.0", None):
                     with self.subTest(function=function.__name__, parameter=name, value=value):
                         with self.assertRaises(TypeError):
                             function(**{**good, name: value})
+
+    def test_steps(self):
+        self.assertRaises(ValueError, semver.increment, "1.0.0", "pre")
+        self.assertRaises(ValueError, semver.increment, "1.0.0", "patch", base=2)
+        with self.assertRaises(semver.IncrementError) as caught:
+            semver.increment(Version("1.0.0"), "release")
+        self.assertEqual((caught.exception.message, caught.exception.text), ("The version is a release already.", "1.0.0"))
 
     def test_values(self):
         for wrong in (3, b"1", None, 2**100, ["1"]):

@@ -10,6 +10,7 @@ pub(crate) const TAG: i32 = -1;
 pub(crate) const INVALID_RANGE: i32 = -2;
 pub(crate) const INVALID_VERSION: i32 = -3;
 const NO_MEMORY: i32 = -6;
+pub(crate) const NO_INCREMENT: i32 = -8;
 
 /// A grammar of ranges.
 #[derive(Clone, Copy, Debug, PartialEq, Eq)]

@@ -32,6 +32,7 @@ mod raw;
 mod scan;
 #[cfg(feature = "serde")]
 mod serde;
+mod step;
 mod string;
 mod version;
 mod version_req;
@@ -41,6 +42,7 @@ pub use error::{ParseErrorFailureError, Place};
 pub use partial::{Partial, XRange};
 pub use range::{PackageTag, RangeBound, RangeSetOrTag, VersionBound, VersionBoundKind, VersionRange, VersionRangeSet};
 pub use scan::Scan;
+pub use step::{Base, IncrementError, ReleaseType};
 pub use string::{SmallStackString, StackString};
 pub use version::{Version, VersionParseError, VersionParts, VersionPreOrBuild};
 pub use version_req::{VersionReq, VersionReqNormalizedParseError, VersionReqSpecifierParseError};

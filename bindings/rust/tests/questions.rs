@@ -7,8 +7,8 @@ use deno_semver_proved::lowest::{self, Lowest};
 use deno_semver_proved::npm::is_valid_npm_tag;
 use deno_semver_proved::package::{json, PackageReq};
 use deno_semver_proved::{
-    Grammar, InvalidRange, Place, PreRelease, RangeBound, RangeSetOrTag, Version, VersionBoundKind, VersionRange, VersionReq,
-    WILDCARD_VERSION_REQ,
+    Base, Grammar, InvalidRange, Place, PreRelease, RangeBound, RangeSetOrTag, ReleaseType, Version, VersionBoundKind, VersionRange,
+    VersionReq, WILDCARD_VERSION_REQ,
 };
 use std::error::Error;
 use std::ffi::c_long;
@@ -141,6 +141,21 @@ fn order(one: &Version, other: &Version) -> String {
     let order = one.cmp(other);
     assert_eq!((one.partial_cmp(other), one == other, hash(one) == hash(other)), (Some(order), order.is_eq(), order.is_eq()));
     ["before", "same", "after"][(order as i8 + 1) as usize].to_string()
+}
+
+const KINDS: [&str; 8] = ["major", "minor", "patch", "premajor", "preminor", "prepatch", "prerelease", "release"];
+const RELEASE_TYPES: [ReleaseType; 8] = {
+    use ReleaseType::*;
+    [Major, Minor, Patch, PreMajor, PreMinor, PrePatch, PreRelease, Release]
+};
+const BASES: [Base; 3] = [Base::Zero, Base::One, Base::Nothing];
+
+fn place_of(name: &str, names: &[&str]) -> Option<usize> {
+    names.iter().position(|it| *it == name)
+}
+
+fn difference(one: &Version, other: &Version) -> String {
+    one.difference(other).map_or("none", |kind| KINDS[kind as usize]).to_string()
 }
 
 fn precedence(one: &Version, other: &Version) -> String {
@@ -321,6 +336,14 @@ fn ask(question: &[&str]) -> Option<Answers> {
         [_, "unknown", ..] => return None,
         ["fits", grammar, _, requirement, version] => requirements(grammar, requirement)
             .and_then(|reqs| Ok(reqs.iter().zip(versions(version)?).map(|(req, version)| fits(req, &version, flag)).collect())),
+        ["increment", kind, base, version, identifiers] => {
+            let (kind, base) = (RELEASE_TYPES[place_of(kind, &KINDS)?], BASES[place_of(base, &["zero", "one", "nothing"])?]);
+            versions(version).and_then(|all| {
+                let next = |version: &Version| version.increment(kind, identifiers, base);
+                all.iter().map(|it| next(it).map_or_else(|error| format!("no increment{US}{}", error.message), |next| format!("yes{US}{next}"))).map(Ok).collect()
+            })
+        }
+        ["difference", one, other] => versions(one).and_then(|one| pairs(one, versions(other)?, same, difference)),
         ["compare", one, other] => versions(one).and_then(|one| pairs(one, versions(other)?, same, precedence)),
         ["order", one, other] => versions(one).and_then(|one| pairs(one, versions(other)?, same, order)),
         ["overlap", grammar, one, other] => reqs(grammar, one, other, overlap),
@@ -359,7 +382,7 @@ fn wanted(call: &str, answer: &str) -> String {
         // These have a place and no message.
         ("best" | "lowest" | "sort", ["invalid version", _, place]) => ["invalid version", place].join(US),
         // These have a message and no place.
-        ("overlap" | "equal" | "req_order" | "compare" | "order", [code @ ("invalid range" | "invalid version"), message, _]) => {
+        ("overlap" | "equal" | "req_order" | "increment" | "difference" | "compare" | "order", [code @ ("invalid range" | "invalid version"), message, _]) => {
             [*code, *message].join(US)
         }
         // These have a place even if there is one range alone.

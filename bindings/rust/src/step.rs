@@ -1,0 +1,94 @@
+//! The step from a version to another.
+
+use crate::calls::{failed, with_text, NO_INCREMENT, YES};
+use crate::externs::{semver_difference, semver_increment};
+use crate::Version;
+
+/// A kind of release, by which step a version comes next.
+#[derive(Clone, Copy, Debug, PartialEq, Eq)]
+#[repr(u32)]
+pub enum ReleaseType {
+    /// The next major version.
+    Major = 0,
+    /// The next minor version.
+    Minor = 1,
+    /// The next patch.
+    Patch = 2,
+    /// A pre-release of the next major version.
+    PreMajor = 3,
+    /// A pre-release of the next minor version.
+    PreMinor = 4,
+    /// A pre-release of the next patch.
+    PrePatch = 5,
+    /// The next pre-release.
+    PreRelease = 6,
+    /// The release of a pre-release.
+    Release = 7,
+}
+
+/// The number behind the identifiers of a first pre-release.
+#[derive(Clone, Copy, Debug, Default, PartialEq, Eq)]
+#[repr(u32)]
+pub enum Base {
+    /// `0`.
+    #[default]
+    Zero = 0,
+    /// `1`.
+    One = 1,
+    /// None, so that `-beta` comes before `-beta.0`.
+    Nothing = 2,
+}
+
+/// Why no version follows.
+#[derive(Clone, Debug, PartialEq, Eq)]
+pub struct IncrementError {
+    /// What is wrong, in one line.
+    pub message: String,
+}
+
+crate::error::errors! {
+    IncrementError: |it, f| f.write_str(&it.message);
+}
+
+impl Version {
+    /// The next version of a kind, without a build. A pre-release begins with `identifiers`, with `.` between them, and the number of
+    /// `base`. One that begins so already, and goes on with a number, is raised in its last number; without identifiers any is.
+    ///
+    /// The next release of a pre-release may be its own. A pre-release that gets other identifiers may come before the version.
+    ///
+    /// ```
+    /// use deno_semver_proved::{Base, ReleaseType, Version};
+    ///
+    /// let version = Version::parse_standard("1.2.3")?;
+    /// let beta = version.increment(ReleaseType::PreMinor, "beta", Base::Zero)?;
+    /// assert_eq!(beta.to_string(), "1.3.0-beta.0");
+    /// # Ok::<(), Box<dyn std::error::Error>>(())
+    /// ```
+    pub fn increment(&self, release_type: ReleaseType, identifiers: &str, base: Base) -> Result<Version, IncrementError> {
+        let text = self.to_string();
+        let next = with_text(
+            |out, needed| semver_increment(release_type as u32, &text, identifiers, base as u32, out, needed),
+            |code, text| match code {
+                YES => Ok(Version::parse_valid(text)),
+                NO_INCREMENT => Err(IncrementError { message: text.to_owned() }),
+                _ => failed(code),
+            },
+        )?;
+        Ok(next.expect("the text of a version is one"))
+    }
+
+    /// Of which kind the step between two versions is, in either direction; none if they have the same precedence.
+    ///
+    /// ```
+    /// use deno_semver_proved::{ReleaseType, Version};
+    ///
+    /// let [one, other] = ["1.2.3", "1.3.0-rc.1"].map(|text| Version::parse_standard(text).unwrap());
+    /// assert_eq!(one.difference(&other), Some(ReleaseType::PreMinor));
+    /// ```
+    pub fn difference(&self, other: &Version) -> Option<ReleaseType> {
+        use ReleaseType::*;
+        const ALL: [ReleaseType; 8] = [Major, Minor, Patch, PreMajor, PreMinor, PrePatch, PreRelease, Release];
+        let code = semver_difference(&self.to_string(), &other.to_string(), &mut 0);
+        ALL.get(usize::try_from(code).unwrap_or_else(|_| failed(code))).copied()
+    }
+}
