@@ -323,12 +323,12 @@ def examples(page):
     for block in re.findall(r"^```console\n(.*?)^```$", page, re.S | re.M):
         for part in re.split(r"^\$ ", block, flags=re.M)[1:]:
             command, _, printed = part.partition("\n")
-            if re.search(r"(^|\| )ranges ", command):
+            if re.search(r"(^|\| )(ranges|npmver) ", command):
                 yield command, printed
 
 
 def pages():
-    path = f"{RANGES.parent}:{os.environ['PATH']}"
+    path = ":".join([*(str(PROGRAMS[name].parent) for name in ("ranges", "npmver")), os.environ["PATH"]])
     for name in PAGES:
         for command, printed in examples((TOP / name).read_text()):
             ran = subprocess.run(["bash", "-c", command], stdout=subprocess.PIPE, stderr=subprocess.STDOUT, env={"PATH": path}, timeout=60)
