@@ -7,7 +7,6 @@
 
 import { createRequire } from 'node:module';
 import compat from './out/package/compat.js';
-import { LARGE, candidates, whyMatchDiffers, whyReadingDiffers } from './tests/differences.mjs';
 import { Texts } from './tests/random.mjs';
 
 Error.stackTraceLimit = 0; // many calls throw, and a trace takes longer than the rest
@@ -17,30 +16,44 @@ const seeds = given.length ? given.map(Number) : [Math.floor(Math.random() * 2 *
 const require = createRequire(import.meta.url);
 const semver = require(folder);
 const { version: release } = require(`${folder}/package.json`);
+const IS_OLD = release.startsWith('7.3.');
 let texts;
+
 const WRONG = "node-semver: wrong by its own satisfies";
+const LARGE = 'numbers of pre-releases above 2^53 - 1';
 const UNEXPLAINED = 'UNEXPLAINED';
 
 // ---- questions
 
+const OPTIONS = [undefined, undefined, true, { loose: true }, { includePrerelease: true }, { loose: true, includePrerelease: true }];
+const OPERATORS = ['', '=', '==', '===', '!=', '!==', '>', '>=', '<', '<=', '=>'];
+const RELEASE_TYPES = ['major', 'minor', 'patch', 'premajor', 'preminor', 'prepatch', 'prerelease', 'pre', 'release'];
+const IDENTIFIERS = [undefined, undefined, '', 'a', 'beta', 'rc', '1', 'a.1', 'a b'];
+const BASES = [undefined, '0', '1', false];
+
+const options = () => texts.pick(OPTIONS);
+
 /** Ranges as they are usually written, and sometimes odd ones. */
-function range() {
-  return texts.below(10) ? texts.range() : texts.odd();
-}
+const range = () => (texts.below(10) ? texts.range() : texts.odd());
+const version = () => (texts.below(20) ? texts.version() : texts.odd());
+const versions = () => texts.several(10, version);
+const comparator = () => (texts.below(10) ? texts.comparator() : texts.odd());
 
-function version() {
-  return texts.below(20) ? texts.version() : texts.odd();
-}
-
-function versions() {
-  return texts.several(10, version);
+/** A value of JSON, in which an object is what it shows. */
+function shown(value) {
+  if (Array.isArray(value)) return value.map(shown);
+  if (typeof value === 'symbol') return 'any';
+  if (typeof value !== 'object' || value === null) return value;
+  const { raw, range: text, version: displayed, major, minor, patch, prerelease, build, loose, includePrerelease, set, operator, semver: its } = value;
+  if (set) return { raw, text, loose, includePrerelease, set: shown(set) };
+  if (operator !== undefined) return { operator, loose, value: value.value, version: its.version };
+  return { raw, displayed, numbers: [major, minor, patch], prerelease, build, loose };
 }
 
 /** The answer, or how the call fails. */
 function answer(library, ask) {
   try {
-    const result = ask(library);
-    return result?.version ?? result;
+    return shown(ask(library));
   } catch (error) {
     return `throws ${error.name}`;
   }
@@ -48,105 +61,102 @@ function answer(library, ask) {
 
 // ---- why answers differ
 
-const matches = (library, item, text) => library.satisfies(item, text);
+const whyLarge = (asked) => (/\d{16}/.test(JSON.stringify(asked)) ? LARGE : UNEXPLAINED);
 
-/** Why the version matches for one of both only; undefined where they agree. */
-function whyAt(item, text) {
-  const ours = matches(compat, item, text);
-  if (ours === matches(semver, item, text)) return undefined;
-  return whyMatchDiffers(semver, item, text, ours) ?? whyReading([text]) ?? UNEXPLAINED;
+/** Why a value of a text differs; 7.3 doesn't take whitespace out of it. */
+function whyTextDiffers(asked) {
+  const isSpaced = asked.some((it) => typeof it === 'string' && /^\s|\s$|\s\s|[^\S ]/.test(it));
+  return IS_OLD && isSpaced ? 'whitespace' : whyLarge(asked);
 }
 
-/** The first reason why one of these versions matches one of these ranges for one of both only. */
-function whyAtAny(items, ranges) {
-  for (const item of items) {
-    for (const text of ranges) {
-      const why = whyAt(item, text);
-      if (why) return why;
+/** Versions near the bounds of ranges, in which a search finds what two ranges differ in. */
+function candidates(...ranges) {
+  const found = new Set(['0.0.0', '0.0.0-0', '0.0.0-a']);
+  for (const [, major, minor = '0', patch = '0', pre] of ranges.join(' ').matchAll(/(\d+)(?:\.(\d+))?(?:\.(\d+))?(-[\w.]+)?/g)) {
+    const [x, y, z] = [major, minor, patch].map(Number);
+    for (const numbers of [[x, y, z], [x, y, z + 1], [x, y, z - 1], [x, y + 1, 0], [x, y - 1, 9], [x + 1, 0, 0], [x - 1, 9, 9]]) {
+      if (numbers.some((it) => it < 0)) continue;
+      const text = numbers.join('.');
+      for (const end of ['', '-0', '-a', '-a.0', '-zz', pre ?? '', pre ? `${pre}.0` : '']) found.add(text + end);
     }
   }
-  return undefined;
+  return [...found];
 }
 
-function whyReading(ranges) {
-  for (const text of ranges) {
-    const isRead = compat.validRange(text) !== null;
-    if (isRead !== (semver.validRange(text) !== null)) return whyReadingDiffers(semver, text, isRead) ?? UNEXPLAINED;
-  }
-  return undefined;
+/** Whether node-semver says of a version that it decides a question about two ranges, by whether each matches it. */
+function hasWitness([one, other, its], isWitness) {
+  return candidates(one, other).some((item) => isWitness(semver.satisfies(item, one, its), semver.satisfies(item, other, its)));
 }
 
-function whyListDiffers([items, text], ours, theirs) {
-  if (items.some((item) => /\d{16}/.test(item))) return LARGE;
-  return whyAtAny([ours, theirs].filter((it) => it !== null), [text]) ?? UNEXPLAINED;
+function whyIntersectsDiffers(asked, ours) {
+  return hasWitness(asked, (one, other) => one && other) === ours ? WRONG : whyLarge(asked);
 }
 
-function whyMinVersionDiffers([text], ours, theirs) {
-  const why = whyReading([text]);
-  if (why) return why;
-  const isTheirs = theirs !== null && matches(semver, theirs, text);
-  const isOurs = ours !== null && matches(semver, ours, text);
-  if (isOurs && (!isTheirs || semver.lt(ours, theirs))) return WRONG;
-  if (theirs !== null && !isTheirs) return WRONG;
-  return whyAtAny([ours, theirs].filter((it) => it !== null), [text]) ?? UNEXPLAINED;
+function whySubsetDiffers(asked, ours) {
+  return hasWitness(asked, (one, other) => one && !other) !== ours ? WRONG : whyLarge(asked);
 }
 
-/** Why a call about two ranges differs. `isWitness` says of a version whether it decides the question, by what matches it. */
-function whyTwoDiffer([one, other], isYes, isWitness) {
-  const why = whyReading([one, other]);
-  if (why) return why;
-  const near = candidates(one, other);
-  const theirs = near.filter((item) => isWitness(matches(semver, item, one), matches(semver, item, other)));
-  const ours = near.filter((item) => isWitness(matches(compat, item, one), matches(compat, item, other)));
-  if (theirs.length > 0 === isYes) return WRONG;
-  return whyAtAny([...ours, ...theirs], [one, other]) ?? UNEXPLAINED;
+function whyMinVersionDiffers([text, its], ours, theirs) {
+  const isMatch = (found) => found !== null && semver.satisfies(found.displayed, text, its);
+  const isWrong = theirs !== null && !isMatch(theirs);
+  return isWrong || (isMatch(ours) && (theirs === null || semver.lt(ours.displayed, theirs.displayed))) ? WRONG : whyLarge([text]);
 }
 
-function whyVersionDiffers(items) {
-  const isLenient = items.flat().some((item) => (compat.valid(item) === null) !== (semver.valid(item) === null));
-  if (isLenient) return 'lenient texts';
-  return items.flat().some((item) => /\d{16}/.test(item)) ? LARGE : UNEXPLAINED;
-}
-
-const RELEASE_TYPES = ['major', 'minor', 'patch', 'premajor', 'preminor', 'prepatch', 'prerelease'];
-const IDENTIFIERS = [undefined, undefined, '', 'a', 'beta', 'rc', '1', 'a.1', 'a b'];
-const BASES = [undefined, '0', '1', false];
-const IS_OLD = release.startsWith('7.3.');
-
-function whyIncDiffers([item, type, identifier, base]) {
-  if (!type.startsWith('pre')) return whyVersionDiffers([item]);
+function whyIncDiffers([item, type, its, identifier, base]) {
+  if (!type.startsWith('pre')) return type === 'release' ? 'a kind that 7.6 lacks' : whyLarge(item);
   if (identifier === 'a b') return 'identifiers that no version has';
   if (identifier === 'a.1') return 'several identifiers';
   if (IS_OLD && (base || base === false)) return 'a first number';
   if (IS_OLD && identifier === '1') return 'an identifier that is a number';
-  return whyVersionDiffers([item]);
+  return whyLarge(item);
 }
 
 function whyDiffDiffers([one, other]) {
   const [low, high] = [one, other].map((item) => semver.parse(item)).sort((a, b) => a && b && a.compare(b));
   const isToRelease = low?.prerelease.length && high && !high.prerelease.length;
   const isFromRelease = IS_OLD && low && high && !low.prerelease.length !== !high.prerelease.length;
-  return isToRelease || isFromRelease ? 'steps between releases and pre-releases' : whyVersionDiffers([one, other]);
+  return isToRelease || isFromRelease ? 'steps between releases and pre-releases' : whyLarge([one, other]);
 }
 
-// ---- the calls: what each is asked, and why an answer may differ
+// ---- the calls: what each is asked, why an answer may differ, and how it is asked if it isn't a function of the library
 
 const CALLS = {
-  satisfies: [() => [version(), range()], ([item, text]) => whyAt(item, text)],
-  maxSatisfying: [() => [versions(), range()], whyListDiffers],
-  minSatisfying: [() => [versions(), range()], whyListDiffers],
-  minVersion: [() => [range()], whyMinVersionDiffers],
-  intersects: [() => [range(), range()], (asked, ours) => whyTwoDiffer(asked, ours, (a, b) => a && b)],
-  subset: [() => [range(), range()], (asked, ours) => whyTwoDiffer(asked, !ours, (a, b) => a && !b)],
-  valid: [() => [version()], whyVersionDiffers],
-  clean: [() => [version()], ([item]) => whyVersionDiffers([item.trim().replace(/^[=v]+/, '')])],
-  prerelease: [() => [version()], whyVersionDiffers],
-  compare: [() => [version(), version()], whyVersionDiffers],
-  compareBuild: [() => [version(), version()], whyVersionDiffers],
-  inc: [() => [version(), texts.pick(RELEASE_TYPES), texts.pick(IDENTIFIERS), texts.pick(BASES)], whyIncDiffers],
+  satisfies: [() => [version(), range(), options()]],
+  maxSatisfying: [() => [versions(), range(), options()]],
+  minSatisfying: [() => [versions(), range(), options()]],
+  validRange: [() => [range(), options()]],
+  toComparators: [() => [range(), options()]],
+  outside: [() => [version(), range(), texts.pick(['<', '>', '=']), options()]],
+  gtr: [() => [version(), range(), options()]],
+  ltr: [() => [version(), range(), options()]],
+  simplifyRange: [() => [versions(), range(), options()]],
+  minVersion: [() => [range(), options()], whyMinVersionDiffers],
+  intersects: [() => [range(), range(), options()], whyIntersectsDiffers],
+  subset: [() => [range(), range(), options()], whySubsetDiffers],
+  Range: [() => [range(), options()], whyTextDiffers, ({ Range }, ...asked) => new Range(...asked)],
+  'Range.test': [() => [version(), range(), options()], whyLarge, ({ Range }, item, ...asked) => new Range(...asked).test(item)],
+  Comparator: [() => [comparator(), options()], whyTextDiffers, ({ Comparator }, ...asked) => new Comparator(...asked)],
+  'Comparator.test': [() => [version(), comparator(), options()], whyTextDiffers, ({ Comparator }, item, ...asked) => new Comparator(...asked).test(item)],
+  'Comparator.intersects': [
+    () => [comparator(), comparator(), options()],
+    whyIntersectsDiffers,
+    ({ Comparator }, one, other, its) => new Comparator(one, its).intersects(new Comparator(other, its), its),
+  ],
+  SemVer: [() => [version(), options()], whyLarge, ({ SemVer }, ...asked) => new SemVer(...asked)],
+  parse: [() => [version(), options()]],
+  valid: [() => [version(), options()]],
+  clean: [() => [version(), options()]],
+  major: [() => [version(), options()]],
+  prerelease: [() => [version(), options()]],
+  compare: [() => [version(), version(), options()]],
+  compareBuild: [() => [version(), version(), options()]],
+  compareLoose: [() => [version(), version()]],
+  rcompare: [() => [version(), version(), options()]],
+  cmp: [() => [version(), texts.pick(OPERATORS), version(), options()]],
+  inc: [() => [version(), texts.pick(RELEASE_TYPES), options(), texts.pick(IDENTIFIERS), texts.pick(BASES)], whyIncDiffers],
   diff: [() => [version(), version()], whyDiffDiffers],
-  sort: [() => [versions()], whyVersionDiffers],
-  rsort: [() => [versions()], whyVersionDiffers],
+  sort: [() => [versions(), options()]],
+  rsort: [() => [versions(), options()]],
 };
 
 /** Sorting changes a list. */
@@ -155,12 +165,12 @@ function copy(argument) {
 }
 
 /** Asks a call, and counts why answers differ: the reasons, each with how often it is one, and the shortest example. */
-function run(name, [ask, why], reasons) {
+function run(name, [ask, why = whyLarge, call = (library, ...asked) => library[name](...asked)], reasons) {
   for (let i = 0; i < Number(count); i++) {
     const asked = ask();
-    const [ours, theirs] = [compat, semver].map((library) => answer(library, (it) => it[name](...asked.map(copy))));
+    const [ours, theirs] = [compat, semver].map((library) => answer(library, (it) => call(it, ...asked.map(copy))));
     if (JSON.stringify(ours) === JSON.stringify(theirs)) continue;
-    const reason = why(asked, ours, theirs) ?? UNEXPLAINED;
+    const reason = why(asked, ours, theirs);
     const [times, example] = reasons.get(reason) ?? [0, [asked, ours, theirs]];
     reasons.set(reason, [times + 1, shorter(example, [asked, ours, theirs])]);
   }

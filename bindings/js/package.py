@@ -17,14 +17,36 @@ sys.path.insert(0, str(HERE.parent))
 sys.dont_write_bytecode = True
 import library
 
+SOURCES = HERE / "src"
 WASM = HERE / "out/semver.wasm"
 FOLDER = HERE / "out/package"
 PAGE = HERE / "out/page/index.html"
 ENTRANCES = ("index", "compat")
+# node-semver's sub-paths: the files of each folder, by the names that they export.
+SUB_PATHS = {
+    "classes": {"comparator": "Comparator", "range": "Range", "semver": "SemVer"},
+    "functions": {
+        **{name: name for name in (
+            "clean", "cmp", "coerce", "compare", "diff", "eq", "gt", "gte", "inc", "lt", "lte", "major", "minor", "neq", "parse", "patch",
+            "prerelease", "rcompare", "rsort", "satisfies", "sort", "valid",
+        )},
+        "compare-build": "compareBuild",
+        "compare-loose": "compareLoose",
+    },
+    "ranges": {
+        **{name: name for name in ("gtr", "intersects", "ltr", "outside", "subset")},
+        "max-satisfying": "maxSatisfying",
+        "min-satisfying": "minSatisfying",
+        "min-version": "minVersion",
+        "simplify": "simplifyRange",
+        "to-comparators": "toComparators",
+        "valid": "validRange",
+    },
+}
 MODULES_OF_PAGE = ("wasm", "calls", "errors", "held", "versions", "lists", "ranges", "index")
-IMPORT = re.compile(r"^import \{([^}]*)\} from '(\./[^']+)\.js';\n", re.M)
+IMPORT = re.compile(r"^import \{([^}]*)\} from '(\.[^']+)\.js';\n", re.M)
 IMPORT_OF_PAGE = re.compile(r"^import \{[^}]*\} from '[^']+';\n", re.M)
-EXPORT_FROM = re.compile(r"^export \{([^}]*)\} from '(\./[^']+)\.js';\n", re.M)
+EXPORT_FROM = re.compile(r"^export \{([^}]*)\} from '(\.[^']+)\.js';\n", re.M)
 EXPORT = re.compile(r"^export (?=(?:function|class|const|let) (\w+))", re.M)
 DEFAULT = re.compile(r"^export default ", re.M)
 
@@ -53,6 +75,34 @@ def wasm_module(wasm):
     return f"// semver.wasm, as base64.\nexport const base64 =\n  '{text}';\n"
 
 
+def write_sub_path(folder, name, exports):
+    """Writes a file that exports a name of compat: as the module itself in CommonJS, and as its default in ES modules. `index` of a folder
+    has several names."""
+    parts = {
+        ".js": f"export {{ {exports} as default }} from '../../compat.js';\n",
+        ".cjs": f"'use strict';\nmodule.exports = require('../../compat.cjs').{exports};\n",
+        ".d.ts": f"export {{ {exports} as default }} from '../../compat.js';\n",
+        ".d.cts": f"import {{ {exports} }} from '../../compat.cjs';\nexport = {exports};\n",
+    }
+    if name == "index":
+        parts[".js"] = parts[".d.ts"] = f"export {{ {exports} }} from '../../compat.js';\n"
+        parts[".cjs"] = f"'use strict';\nconst {{ {exports} }} = require('../../compat.cjs');\nmodule.exports = {{ {exports} }};\n"
+        parts[".d.cts"] = f"export {{ {exports} }} from '../../compat.cjs';\n"
+    for suffix, text in parts.items():
+        (folder / f"{name}{suffix}").write_text(text)
+
+
+def make_sub_paths():
+    """Makes node-semver's sub-paths below compat."""
+    for kind, names in SUB_PATHS.items():
+        folder = FOLDER / "compat" / kind
+        folder.mkdir(parents=True)
+        for name, exported in names.items():
+            write_sub_path(folder, name, exported)
+    classes = SUB_PATHS["classes"].values()
+    write_sub_path(FOLDER / "compat/classes", "index", ", ".join(classes))
+
+
 def without_links(page):
     """A page of the repository for the package, which has NODE_SEMVER.md beside it and no other page."""
     page = page.replace("](../../docs/NODE_SEMVER.md)", "](NODE_SEMVER.md)")
@@ -77,13 +127,15 @@ def make(wasm):
     """Makes the package of this module of WebAssembly in out/package, and the page."""
     shutil.rmtree(FOLDER, ignore_errors=True)
     FOLDER.mkdir(parents=True)
-    sources = {path.name: path.read_text() for path in (HERE / "src").glob("*.js")}
+    sources = {str(path.relative_to(SOURCES)): path.read_text() for path in SOURCES.rglob("*.js")}
     sources["wasm.js"] = wasm_module(wasm)
     for name, source in sources.items():
+        (FOLDER / name).parent.mkdir(exist_ok=True)
         (FOLDER / name).write_text(source)
         (FOLDER / name).with_suffix(".cjs").write_text(as_commonjs(source))
+    make_sub_paths()
     for name in ENTRANCES:
-        types = (HERE / f"src/{name}.d.ts").read_text()
+        types = (SOURCES / f"{name}.d.ts").read_text()
         (FOLDER / f"{name}.d.ts").write_text(types)
         (FOLDER / f"{name}.d.cts").write_text(types.replace(".js'", ".cjs'"))
     for path in (HERE / "package.json", TOP / "LICENSE", TOP / "packaging/THIRD-PARTY"):

@@ -4,6 +4,7 @@
 # leaves out, since the machine lacks it, and stops at the first failure.
 #
 # usage: test.sh [speed]; with speed it prints the times of calls, beside node-semver's where that is installed.
+# NODE_SEMVER_SOURCE is a folder of node-semver's sources with its own tests, of Debian's by `apt-get source node-semver`.
 set -e
 here=$(cd "$(dirname "$0")" && pwd)
 out=$here/out
@@ -38,6 +39,15 @@ compare() {
     fi
 }
 
+# node-semver's own tests, which its packages lack.
+suite() {
+    if [ -d "$NODE_SEMVER_SOURCE/test" ]; then
+        node "$here/tests/suite.mjs" "$NODE_SEMVER_SOURCE"
+    else
+        echo "JavaScript: no sources of node-semver in NODE_SEMVER_SOURCE, so its own tests aren't run"
+    fi
+}
+
 speed() {
     for folder in "$npm" "$debian"; do
         [ -f "$folder/package.json" ] && { node "$here/speed.mjs" "$folder"; return; }
@@ -57,6 +67,7 @@ fi
 compare "$debian" 8000 & first=$!
 compare "$npm" 2000 & second=$!
 native
+suite
 node --expose-gc --test --test-reporter=dot "$here"/tests/*.test.mjs
 "$here/tests/packed.sh" "$out"
 if has chromium; then node "$here/page/test.mjs"; else echo "JavaScript: no chromium, so the page isn't tried"; fi

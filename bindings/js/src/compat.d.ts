@@ -1,21 +1,21 @@
 /**
- * node-semver's functions over the verified library. NODE_SEMVER.md, which is in the package, says where their answers differ.
+ * node-semver's functions and classes over the verified library. NODE_SEMVER.md, which is in the package, says where their answers differ.
  *
- * Where node-semver answers null or false for an invalid text, so does this module. What it leaves out throws
- * {@link UnsupportedError}.
+ * Where node-semver answers null or false for an invalid text, so does this module.
  *
  * @packageDocumentation
  */
 
 /** The options of a call. */
 export interface Options {
-  /** Has no effect: texts are read leniently in any case. */
+  /** Whether texts are read leniently, such as `=1.2.3` and `1.2.3beta`. */
   readonly loose?: boolean | undefined;
-  /** Isn't supported: `true` throws {@link UnsupportedError}. */
-  readonly includePrerelease?: false | undefined;
+  /** Whether a range matches every pre-release between its bounds. */
+  readonly includePrerelease?: boolean | undefined;
 }
 
-type Loose = boolean | Options;
+/** The options of a call; `true` for `{ loose: true }`. */
+type Loose = boolean | Options | null | undefined;
 
 /** Which operator {@link cmp} applies. */
 export type Operator = '===' | '!==' | '' | '=' | '==' | '!=' | '>' | '>=' | '<' | '<=';
@@ -48,7 +48,7 @@ export class SemVer {
   options: Options;
   /** Whether `loose` was given. */
   loose: boolean;
-  /** Always false. */
+  /** Whether `includePrerelease` was given. */
   includePrerelease: boolean;
   /** -1, 0 or 1, by precedence. */
   compare(other: string | SemVer): -1 | 0 | 1;
@@ -59,10 +59,37 @@ export class SemVer {
   /** -1, 0 or 1, by the build. */
   compareBuild(other: string | SemVer): -1 | 0 | 1;
   /** Makes this the next version of a kind; the build stays. */
-  inc(type: ReleaseType, identifier?: string, base?: IdentifierBase): this;
-  /** The version without its build. */
+  inc(type: Step, identifier?: string, base?: IdentifierBase): this;
+  /** Makes `version` anew from the numbers and the pre-release, and returns it. */
   format(): string;
   /** The version without its build. */
+  toString(): string;
+}
+
+/** An operator and a version, or any version. */
+export class Comparator {
+  /** What {@link Comparator.semver} is of a comparator that any version matches. */
+  static readonly ANY: symbol;
+  /**
+   * Parses a comparator.
+   * @throws TypeError where it's invalid
+   */
+  constructor(comparator: string | Comparator, options?: Loose);
+  /** The operator; empty for `=`. */
+  operator: '' | '>' | '>=' | '<' | '<=';
+  /** The version behind the operator; {@link Comparator.ANY} where {@link Comparator.value} is empty. */
+  semver: SemVer;
+  /** The operator and the version; empty for any version. */
+  value: string;
+  /** The options given. */
+  options: Options;
+  /** Whether `loose` was given. */
+  loose: boolean;
+  /** Whether the version matches, by the order of versions alone. */
+  test(version: string | SemVer | symbol): boolean;
+  /** Whether a version matches both comparators. */
+  intersects(comparator: Comparator, options?: Loose): boolean;
+  /** The operator and the version. */
   toString(): string;
 }
 
@@ -72,26 +99,26 @@ export class Range {
    * Parses a range.
    * @throws TypeError where it's invalid
    */
-  constructor(range: string | Range, options?: Loose);
-  /** The text it was parsed from. */
+  constructor(range: string | Range | Comparator, options?: Loose);
+  /** The text it was parsed from, with single spaces. */
   raw: string;
+  /** The comparators as a text, with `||` between alternatives; empty for any version. */
+  range: string;
+  /** The alternatives, each a list of comparators that all match. */
+  set: readonly (readonly Comparator[])[];
   /** The options given. */
   options: Options;
   /** Whether `loose` was given. */
   loose: boolean;
-  /** Always false. */
+  /** Whether `includePrerelease` was given. */
   includePrerelease: boolean;
-  /** The canonical form, where node-semver has comparators. */
-  get range(): string;
-  /** Left out: throws {@link UnsupportedError}. */
-  get set(): never;
   /** Whether the version matches; false where it's invalid. */
   test(version: string | SemVer): boolean;
   /** Whether a version matches both ranges. */
-  intersects(range: string | Range, options?: Loose): boolean;
-  /** The canonical form. */
+  intersects(range: Range, options?: Loose): boolean;
+  /** Makes `range` anew from the set, and returns it. */
   format(): string;
-  /** The canonical form. */
+  /** The comparators as a text. */
   toString(): string;
 }
 
@@ -99,7 +126,7 @@ export class Range {
 export const SEMVER_SPEC_VERSION: '2.0.0';
 
 /** The kinds of releases. */
-export const RELEASE_TYPES: readonly string[];
+export const RELEASE_TYPES: readonly ReleaseType[];
 
 /** The version; null where it's invalid. With `throwErrors` an invalid one throws `TypeError`. */
 export function parse(version: string | SemVer | null | undefined, options?: Loose, throwErrors?: boolean): SemVer | null;
@@ -120,7 +147,7 @@ export function prerelease(version: string | SemVer, options?: Loose): (string |
 export function compare(one: string | SemVer, other: string | SemVer, options?: Loose): -1 | 0 | 1;
 /** The opposite of {@link compare}. */
 export function rcompare(one: string | SemVer, other: string | SemVer, options?: Loose): -1 | 0 | 1;
-/** The same as {@link compare}. */
+/** {@link compare} with `loose`. */
 export function compareLoose(one: string | SemVer, other: string | SemVer): -1 | 0 | 1;
 /** -1, 0 or 1, by precedence and then by the build. */
 export function compareBuild(one: string | SemVer, other: string | SemVer, options?: Loose): -1 | 0 | 1;
@@ -149,48 +176,47 @@ export function sort<T extends string | SemVer>(list: T[], options?: Loose): T[]
 export function rsort<T extends string | SemVer>(list: T[], options?: Loose): T[];
 
 /** Whether the version matches; false where either is invalid. */
-export function satisfies(version: string | SemVer | null | undefined, range: string | Range, options?: Loose): boolean;
+export function satisfies(version: string | SemVer | null | undefined, range: string | Range | Comparator, options?: Loose): boolean;
 /** The highest version that matches; null where none does, or the range is invalid. */
 export function maxSatisfying<T extends string | SemVer>(versions: readonly T[], range: string | Range, options?: Loose): T | null;
 /** The lowest version that matches; null where none does, or the range is invalid. */
 export function minSatisfying<T extends string | SemVer>(versions: readonly T[], range: string | Range, options?: Loose): T | null;
 /** The lowest version that the range matches; null where no version does. */
-export function minVersion(range: string | Range, options?: Loose): SemVer | null;
-/** The canonical form, where node-semver returns comparators; null where the range is invalid. */
-export function validRange(range: string | Range | null | undefined, options?: Loose): string | null;
+export function minVersion(range: string | Range | Comparator, options?: Loose): SemVer | null;
+/** The comparators of the range as a text, `*` for any version; null where the range is invalid. */
+export function validRange(range: string | Range | Comparator | null | undefined, options?: Loose): string | null;
+/** The comparators of the range, as the texts of each alternative. */
+export function toComparators(range: string | Range | Comparator, options?: Loose): string[][];
 /** Whether a version matches both ranges. */
-export function intersects(one: string | Range, other: string | Range, options?: Loose): boolean;
+export function intersects(one: string | Range | Comparator, other: string | Range | Comparator, options?: Loose): boolean;
 /** Whether `dom` matches each version that `sub` matches. */
-export function subset(sub: string | Range, dom: string | Range, options?: Loose): boolean;
+export function subset(sub: string | Range | Comparator, dom: string | Range | Comparator, options?: Loose): boolean;
+/** Whether the version is above (`>`) or below (`<`) the bounds of each alternative of the range. */
+export function outside(version: string | SemVer, range: string | Range | Comparator, hilo: '>' | '<', options?: Loose): boolean;
+/** {@link outside} with `>`. */
+export function gtr(version: string | SemVer, range: string | Range | Comparator, options?: Loose): boolean;
+/** {@link outside} with `<`. */
+export function ltr(version: string | SemVer, range: string | Range | Comparator, options?: Loose): boolean;
+/** A range that matches the same of these versions, if its text is shorter; else the one that is given. */
+export function simplifyRange<T extends string | Range>(versions: readonly string[], range: T, options?: Loose): string | T;
 
 /** A kind of release, by which step a version comes next. */
 export type ReleaseType = 'major' | 'premajor' | 'minor' | 'preminor' | 'patch' | 'prepatch' | 'prerelease' | 'release';
+
+/** How a version is raised: to the next one of a kind, or by `pre` in its pre-release, which a release then gets. */
+type Step = ReleaseType | 'pre';
 
 /** The first number of a pre-release; `false` for none. */
 export type IdentifierBase = '0' | '1' | false;
 
 /** The next version of a kind; null where there is none, or the version is invalid. */
-export function inc(version: string | SemVer, type: ReleaseType, options?: Loose, identifier?: string, base?: IdentifierBase): string | null;
+export function inc(version: string | SemVer, type: Step, options?: Loose, identifier?: string, base?: IdentifierBase): string | null;
 /** The same without options. */
-export function inc(version: string | SemVer, type: ReleaseType, identifier?: string, base?: IdentifierBase): string | null;
+export function inc(version: string | SemVer, type: Step, identifier?: string, base?: IdentifierBase): string | null;
 /** Of which kind the step between two versions is; null if they have the same precedence. */
 export function diff(one: string | SemVer, other: string | SemVer): ReleaseType | null;
 /** Left out: throws {@link UnsupportedError}. */
 export function coerce(...arguments_: unknown[]): never;
-/** Left out: throws {@link UnsupportedError}. */
-export function outside(...arguments_: unknown[]): never;
-/** Left out: throws {@link UnsupportedError}. */
-export function gtr(...arguments_: unknown[]): never;
-/** Left out: throws {@link UnsupportedError}. */
-export function ltr(...arguments_: unknown[]): never;
-/** Left out: throws {@link UnsupportedError}. */
-export function simplifyRange(...arguments_: unknown[]): never;
-/** Left out: throws {@link UnsupportedError}. */
-export function toComparators(...arguments_: unknown[]): never;
-/** Left out: throws {@link UnsupportedError}. */
-export class Comparator {
-  private constructor();
-}
 
 /** All of it, for `import semver from 'deno-semver/compat'`. */
 declare const all: Omit<typeof import('./compat.js'), 'default'>;

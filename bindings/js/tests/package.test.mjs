@@ -2,6 +2,7 @@
 
 import assert from 'node:assert/strict';
 import { existsSync, readFileSync, readdirSync } from 'node:fs';
+import { join } from 'node:path';
 import { createRequire } from 'node:module';
 import { test } from 'node:test';
 import * as compat from '../out/package/compat.js';
@@ -12,12 +13,14 @@ const require = createRequire(import.meta.url);
 const folder = new URL('../out/package/', import.meta.url);
 const read = (name) => readFileSync(new URL(name, folder), 'utf8');
 const withoutComments = (source) => source.replace(/\/\*[^]*?\*\/|\/\/.*/g, '');
-const names = readdirSync(folder).filter((name) => /\.c?js$/.test(name) && !name.startsWith('wasm.'));
+const folders = ['', 'compat', 'compat/classes', 'compat/functions', 'compat/ranges'];
+const names = folders.flatMap((it) => readdirSync(new URL(it, folder)).map((name) => join(it, name)))
+  .filter((name) => /\.c?js$/.test(name) && !name.startsWith('wasm.'));
 
 for (const name of names) {
   test(`${name} imports nothing of Node`, () => {
     const source = withoutComments(read(name));
-    for (const [, module] of source.matchAll(/(?:from|require\(|import\()\s*'([^']*)'/g)) assert.match(module, /^\.\//);
+    for (const [, module] of source.matchAll(/(?:from|require\(|import\()\s*'([^']*)'/g)) assert.match(module, /^\.\.?\//);
     assert.doesNotMatch(source, /\b(process|Buffer|global|__dirname|__filename)\b|node:/);
   });
 }

@@ -1,0 +1,72 @@
+// What the library is asked of comparators: `set` is a list of alternatives, each a list of comparators.
+//
+// The library begins a range that has an end at 0.0.0. Pre-releases of 0.0.0, which come before it, are thus compared with each comparator
+// here. They come between few bounds, so that each question about them is one about some of them.
+
+import { NO, YES, ask1, ask2, outOfMemory, text, wasm } from '../calls.js';
+import { askFits } from '../held.js';
+import { SemVer } from './semver.js';
+
+const isAny = (comparator) => comparator.value === '';
+const isPreOfZero = ({ major, minor, patch, prerelease }) => major === 0 && minor === 0 && patch === 0 && prerelease.length > 0;
+
+/** The comparators as a range. */
+export function textOf(set) {
+  return set.map((comparators) => comparators.map(({ value }) => value).join(' ').trim()).join('||').trim();
+}
+
+/** Whether the version, a `SemVer`, matches the set, whose text is `range`. */
+export function matches(set, range, version, includesPre) {
+  return isPreOfZero(version) ? matchesEach(set, version, includesPre) : matchesText(range, version.version, includesPre);
+}
+
+/** Whether the text of a version that isn't a pre-release of 0.0.0 matches the comparators. */
+export function matchesText(range, version, includesPre) {
+  const code = askFits(0, range || '*', version, Number(includesPre));
+  if (code < 0) throw outOfMemory();
+  return code === YES;
+}
+
+function matchesEach(set, version, includesPre) {
+  const allows = (comparator) => !isAny(comparator) && isPreOfZero(comparator.semver);
+  return set.some((comparators) => comparators.every((it) => it.test(version)) && (includesPre || comparators.some(allows)));
+}
+
+/** Some pre-releases of 0.0.0, of which the sets match one alike between two bounds, the lowest first. */
+function preReleasesOfZero(...sets) {
+  const bounds = sets.flat(2).filter((it) => !isAny(it) && isPreOfZero(it.semver)).map(({ semver }) => semver.version);
+  const versions = ['0.0.0-0', ...bounds.flatMap((bound) => [bound, `${bound}.0`])];
+  return versions.map((version) => new SemVer(version)).sort((one, other) => one.compare(other));
+}
+
+/** The set without pre-releases of 0.0.0, as a range. */
+function fromZero(set) {
+  return set.map((comparators) => `${textOf([comparators])} >=0.0.0`).join('||');
+}
+
+/** The text of the lowest version that matches; null where there is none. */
+export function lowestOf(set, includesPre) {
+  const lowest = preReleasesOfZero(set).find((it) => matchesEach(set, it, includesPre));
+  if (lowest) return lowest.version;
+  const code = ask1(wasm.min_version, 0, fromZero(set), Number(includesPre));
+  if (code !== YES && code !== NO) throw outOfMemory();
+  return code === YES ? text() : null;
+}
+
+/** Whether a version matches both sets. */
+export function haveCommon(one, other, includesPre) {
+  const isCommon = (version) => matchesEach(one, version, includesPre) && matchesEach(other, version, includesPre);
+  return preReleasesOfZero(one, other).some(isCommon) || askBoth(wasm.common, one, other, includesPre);
+}
+
+/** Whether the other set matches each version that the first one matches. */
+export function isWithin(one, other, includesPre) {
+  const isMissing = (version) => matchesEach(one, version, includesPre) && !matchesEach(other, version, includesPre);
+  return !preReleasesOfZero(one, other).some(isMissing) && askBoth(wasm.within, one, other, includesPre);
+}
+
+function askBoth(call, one, other, includesPre) {
+  const code = ask2(call, 0, fromZero(one), fromZero(other), Number(includesPre));
+  if (code < 0) throw outOfMemory();
+  return code === YES;
+}

@@ -1,0 +1,130 @@
+// node-semver's functions of ranges.
+
+import { YES, ask2, codes, outOfMemory, wasm } from '../calls.js';
+import { kindOf } from '../errors.js';
+import { linesOf } from '../lists.js';
+import { isWithin, lowestOf } from './asked.js';
+import { Comparator } from './comparator.js';
+import { optionsOf } from './options.js';
+import { Range } from './range.js';
+import { SemVer } from './semver.js';
+import { compare } from './versions.js';
+
+/** The range; undefined where it's invalid. */
+function readable(range, options) {
+  try {
+    return new Range(range, options);
+  } catch (error) {
+    if (error instanceof TypeError) return undefined;
+    throw error;
+  }
+}
+
+export function satisfies(version, range, options) {
+  return readable(range, options)?.test(version) ?? false;
+}
+
+export function validRange(range, options) {
+  const read = readable(range, options);
+  return read ? read.range || '*' : null;
+}
+
+export function toComparators(range, options) {
+  return new Range(range, options).set.map((comparators) => comparators.map(({ value }) => value));
+}
+
+export function minVersion(range, options) {
+  const { set, includePrerelease } = new Range(range, options);
+  const lowest = lowestOf(set, includePrerelease);
+  return lowest === null ? null : new SemVer(lowest);
+}
+
+export function intersects(one, other, options) {
+  return new Range(one, options).intersects(new Range(other, options), options);
+}
+
+export function subset(sub, dom, options) {
+  const [one, other] = [new Range(sub, options), new Range(dom, options)];
+  return isWithin(one.set, other.set, Boolean(optionsOf(options).includePrerelease));
+}
+
+// ---- lists of versions
+
+/** The version of the list that `call`, the highest or the lowest, finds among those that match. */
+function find(call, versions, range, options) {
+  if (!Array.isArray(versions)) throw new TypeError(`versions must be an array, not ${kindOf(versions)}`);
+  const read = readable(range, options);
+  const matching = read ? versions.filter((version) => read.test(version)) : [];
+  if (matching.length === 0) return null;
+  const lines = linesOf(matching.map((version) => new SemVer(version, options).version));
+  if (ask2(call, 0, '*', lines, 1) !== YES) throw outOfMemory();
+  return matching[wasm.place()];
+}
+
+export function maxSatisfying(versions, range, options) {
+  return find(wasm.best, versions, range, options);
+}
+
+export function minSatisfying(versions, range, options) {
+  return find(wasm.lowest, versions, range, options);
+}
+
+export function simplifyRange(versions, range, options) {
+  const read = readable(range, options);
+  const sorted = [...versions].sort((one, other) => compare(one, other, options));
+  const simplified = runsOf(sorted, (version) => read?.test(version)).map((run) => textOfRun(run, sorted)).join(' || ');
+  const original = typeof range.raw === 'string' ? range.raw : String(range);
+  return simplified.length < original.length ? simplified : range;
+}
+
+/** The first and the last one of each run of versions that match. */
+function runsOf(sorted, isMatch) {
+  const runs = [];
+  let isInRun = false;
+  for (const version of sorted) {
+    const matches = isMatch(version);
+    if (matches && isInRun) runs.at(-1).last = version;
+    else if (matches) runs.push({ first: version, last: version });
+    isInRun = matches;
+  }
+  return runs;
+}
+
+function textOfRun({ first, last }, sorted) {
+  const [begins, ends] = [first === sorted[0], last === sorted.at(-1)];
+  if (begins && ends) return '*';
+  if (ends) return `>=${first}`;
+  if (first === last) return String(first);
+  return begins ? `<=${last}` : `${first} - ${last}`;
+}
+
+// ---- versions outside a range
+
+export function outside(version, range, direction, options) {
+  const [tested, read] = [new SemVer(version, options), new Range(range, options)];
+  if (direction !== '<' && direction !== '>') throw new TypeError('Must provide a hilo val of "<" or ">"');
+  return !read.test(tested) && read.set.every((comparators) => isBeyond(tested, comparators, direction));
+}
+
+/** Whether a version that doesn't match lies beyond the comparators in this direction, as node-semver decides it by two of them. */
+function isBeyond(version, comparators, direction) {
+  const sign = direction === '>' ? 1 : -1;
+  const bounds = comparators.map((it) => (it.semver === Comparator.ANY ? new Comparator('>=0.0.0') : it));
+  let [far, near] = [bounds[0], bounds[0]];
+  for (const bound of bounds) {
+    if (sign * bound.semver.compare(far.semver) > 0) far = bound;
+    else if (sign * bound.semver.compare(near.semver) < 0) near = bound;
+  }
+  if (far.operator.startsWith(direction)) return false;
+  const order = sign * version.compare(near.semver);
+  if (near.operator === `${direction}=`) return order >= 0;
+  return order > 0 || (near.operator !== '' && near.operator !== direction);
+}
+
+export function gtr(version, range, options) {
+  return outside(version, range, '>', options);
+}
+
+export function ltr(version, range, options) {
+  return outside(version, range, '<', options);
+}
