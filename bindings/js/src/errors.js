@@ -129,17 +129,55 @@ export function kindOf(value) {
   return Array.isArray(value) ? 'an array' : typeof value;
 }
 
-/** The numbers of the options. */
-export function optionsOf(options) {
-  if (options === undefined) return NPM;
-  if (options === null || typeof options !== 'object') throw new TypeError(`options must be an object, not ${kindOf(options)}`);
-  for (const name of Object.keys(options)) {
-    if (name !== 'grammar' && name !== 'preReleases') throw new TypeError(`options has no "${name}"`);
-  }
-  const { grammar = 'npm', preReleases = false } = options;
-  if (!GRAMMARS.has(grammar)) throw new TypeError('options.grammar must be "npm", "normalized" or "strict"');
-  if (typeof preReleases !== 'boolean') throw new TypeError(`options.preReleases must be a boolean, not ${kindOf(preReleases)}`);
-  return { grammar: GRAMMARS.get(grammar), name: grammar, pre: preReleases ? 1 : 0 };
+// What a `Version` and a `Range` of any copy of this package say of themselves.
+export const VERSION_TEXT = Symbol.for('deno-semver.version');
+export const RANGE_PARTS = Symbol.for('deno-semver.range');
+
+/** The method by which Node shows a value. */
+export const INSPECT = Symbol.for('nodejs.util.inspect.custom');
+
+/** The text of a version that is a text or a `Version`. */
+export function versionText(version, name) {
+  const text = typeof version === 'string' ? version : version?.[VERSION_TEXT];
+  if (typeof text === 'string') return text;
+  throw new TypeError(`${name} must be a string or a Version, not ${kindOf(version)}`);
 }
 
-const NPM = { grammar: 0, name: 'npm', pre: 0 };
+/** The text and the options of a range that is a text or a `Range`; a text has no options. */
+function rangeParts(range, name) {
+  if (typeof range === 'string') return { text: range };
+  const parts = range?.[RANGE_PARTS];
+  if (parts === undefined) throw new TypeError(`${name} must be a string or a Range, not ${kindOf(range)}`);
+  return parts;
+}
+
+const NAMES = ['grammar', 'preReleases'];
+
+/** The options by their names; each is one of `names`. */
+export function expectOptions(options, names) {
+  if (options === undefined) return {};
+  if (options === null || typeof options !== 'object') throw new TypeError(`options must be an object, not ${kindOf(options)}`);
+  for (const name of Object.keys(options)) {
+    if (!names.includes(name)) throw new TypeError(`options has no "${name}"`);
+  }
+  return options;
+}
+
+export function expectBoolean(value, name) {
+  if (typeof value !== 'boolean') throw new TypeError(`${name} must be a boolean, not ${kindOf(value)}`);
+  return value;
+}
+
+/** The texts of ranges, which are given by their names, and how they are asked: as the options say, or else the first `Range` of them. */
+export function questionOf(ranges, options, names = NAMES) {
+  const given = Object.entries(ranges).map(([name, range]) => [name, rangeParts(range, name)]);
+  const held = given.map(([, parts]) => parts.options).find((it) => it !== undefined);
+  const { grammar = held?.grammar ?? 'npm', preReleases = held?.preReleases ?? false } = expectOptions(options, names);
+  if (!GRAMMARS.has(grammar)) throw new TypeError('options.grammar must be "npm", "normalized" or "strict"');
+  expectBoolean(preReleases, 'options.preReleases');
+  for (const [name, parts] of given) {
+    const its = parts.options?.grammar ?? grammar;
+    if (its !== grammar) throw new TypeError(`${name} is a Range of the grammar "${its}", not "${grammar}"`);
+  }
+  return { texts: given.map(([, { text }]) => text), grammar: GRAMMARS.get(grammar), name: grammar, pre: preReleases ? 1 : 0 };
+}

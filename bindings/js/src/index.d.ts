@@ -1,6 +1,8 @@
 /**
  * Versions and version ranges of npm and JSR.
  *
+ * A version is a string or a {@link Version}, and a range a string or a {@link Range}, of this copy of the package or of another.
+ *
  * A text of another type throws `TypeError` with the parameter's name, an invalid text a {@link RangeSyntaxError} or a
  * {@link VersionSyntaxError}, a range that is a tag a {@link TagError}, and running out of memory a `RangeError`.
  *
@@ -26,7 +28,13 @@ export interface GrammarOptions {
   readonly grammar?: Grammar;
 }
 
-/** How a range is parsed, and which pre-releases it matches. */
+/** Whether invalid versions of a list are left out. */
+export interface ListOptions {
+  /** Leaves out invalid versions, where they are else a {@link VersionSyntaxError}. False by default. */
+  readonly skipInvalid?: boolean;
+}
+
+/** How a range is parsed, and which pre-releases it matches. A {@link Range} has options of its own, which these may replace but its grammar. */
 export interface Options extends GrammarOptions {
   /**
    * Whether every pre-release between the bounds matches. By default one matches by npm's rule: if it's between the bounds, and a bound
@@ -79,7 +87,7 @@ export class Version {
    * Parses a version.
    * @throws {@link VersionSyntaxError}
    */
-  constructor(version: string);
+  constructor(version: string | Version);
   /** The first number; `RangeError` where it's above `Number.MAX_SAFE_INTEGER`. */
   get major(): number;
   /** The second number; `RangeError` where it's above `Number.MAX_SAFE_INTEGER`. */
@@ -123,7 +131,7 @@ export class Range {
    * Parses a range.
    * @throws {@link RangeSyntaxError}
    */
-  constructor(range: string, options?: Options);
+  constructor(range: string | Range, options?: Options);
   /** The text. */
   get text(): string;
   /** The canonical form: the shortest usual form, meant to be stored. */
@@ -136,9 +144,9 @@ export class Range {
    */
   matches(version: string | Version): boolean;
   /** Whether both ranges overlap by their bounds. Two tags do if they are the same. */
-  overlaps(other: Range): boolean;
+  overlaps(other: string | Range): boolean;
   /** Whether both ranges have the same bounds, or are the same tag, whatever their texts. */
-  equals(other: Range): boolean;
+  equals(other: string | Range): boolean;
   /**
    * What the range matches, as scans of an index on {@link Version.sortKey}: a version matches exactly if its key is in a scan of its kind.
    * The scans of releases come first. Those of a kind are in ascending order, with a gap between one and the next.
@@ -166,17 +174,17 @@ export class VersionList<T extends string | Version = string> {
    * The versions that match, in the order of the list.
    * @throws {@link TagError}
    */
-  filter(range: Range): T[];
+  filter(range: string | Range, options?: Options): T[];
   /**
    * The highest version that matches, the first of equal ones; `undefined` where none matches.
    * @throws {@link TagError}
    */
-  best(range: Range): T | undefined;
+  best(range: string | Range, options?: Options): T | undefined;
   /**
    * The lowest version that matches, the first of equal ones; `undefined` where none matches.
    * @throws {@link TagError}
    */
-  lowest(range: Range): T | undefined;
+  lowest(range: string | Range, options?: Options): T | undefined;
   /** The versions by precedence, without the invalid ones. Versions that differ only in the build keep their order. */
   sort(): T[];
   /** Frees the list. Its methods throw `TypeError` then. */
@@ -192,19 +200,19 @@ export class VersionList<T extends string | Version = string> {
  * matches('>=1.2 <2 || 3', '1.3.0') // true
  * ```
  */
-export function matches(range: string, version: string | Version, options?: Options): boolean;
+export function matches(range: string | Range, version: string | Version, options?: Options): boolean;
 
 /** The versions of the list that match, in its order. */
-export function filter<T extends string | Version>(range: string, versions: readonly T[], options?: Options): T[];
+export function filter<T extends string | Version>(range: string | Range, versions: readonly T[], options?: Options & ListOptions): T[];
 
 /** The highest version of the list that matches, the first of equal ones; undefined where none does. */
-export function best<T extends string | Version>(range: string, versions: readonly T[], options?: Options): T | undefined;
+export function best<T extends string | Version>(range: string | Range, versions: readonly T[], options?: Options & ListOptions): T | undefined;
 
 /** The lowest version of the list that matches, the first of equal ones; undefined where none does. */
-export function lowest<T extends string | Version>(range: string, versions: readonly T[], options?: Options): T | undefined;
+export function lowest<T extends string | Version>(range: string | Range, versions: readonly T[], options?: Options & ListOptions): T | undefined;
 
 /** A new list of the versions by precedence, the lowest first; equal ones stay in their order. */
-export function sort<T extends string | Version>(versions: readonly T[]): T[];
+export function sort<T extends string | Version>(versions: readonly T[], options?: ListOptions): T[];
 
 /** -1, 0 or 1: the order of two versions by precedence, which ignores the build. */
 export function compare(one: string | Version, other: string | Version): -1 | 0 | 1;
@@ -242,25 +250,25 @@ export function increment(version: string | Version, releaseType: ReleaseType, o
 export function difference(one: string | Version, other: string | Version): Exclude<ReleaseType, 'release'> | null;
 
 /** Whether `other` matches each version that `one` matches. */
-export function isSubset(one: string, other: string, options?: Options): boolean;
+export function isSubset(one: string | Range, other: string | Range, options?: Options): boolean;
 
 /** The lowest version that `one` matches and `other` doesn't; undefined where there is none. */
-export function counterexample(one: string, other: string, options?: Options): string | undefined;
+export function counterexample(one: string | Range, other: string | Range, options?: Options): string | undefined;
 
 /** Whether both ranges match the same versions. */
-export function isEquivalent(one: string, other: string, options?: Options): boolean;
+export function isEquivalent(one: string | Range, other: string | Range, options?: Options): boolean;
 
 /** Whether two ranges overlap by their bounds, between which there may be no version: {@link common} is exact. */
-export function overlaps(one: string, other: string, options?: GrammarOptions): boolean;
+export function overlaps(one: string | Range, other: string | Range, options?: GrammarOptions): boolean;
 
 /** The lowest version that all ranges match; undefined where there is none, and where there are no ranges. */
-export function common(ranges: readonly string[], options?: Options): string | undefined;
+export function common(ranges: readonly (string | Range)[], options?: Options): string | undefined;
 
 /** The lowest version that the range matches; undefined where no version does. */
-export function minVersion(range: string, options?: Options): string | undefined;
+export function minVersion(range: string | Range, options?: Options): string | undefined;
 
 /** The canonical form of the range, or its tag: the shortest usual form, meant to be stored. */
-export function canonical(range: string, options?: GrammarOptions): string;
+export function canonical(range: string | Range, options?: GrammarOptions): string;
 
 /** A bound of an alternative. */
 export interface Bound {
@@ -295,14 +303,14 @@ export interface InvalidAlternative {
 
 /** What a range means: its alternatives and its canonical form; or the tag that it is. */
 export type Explanation =
-  | { readonly alternatives: readonly (ValidAlternative | InvalidAlternative)[]; readonly canonical: string; readonly tag?: undefined }
+  | { readonly alternatives: readonly (ValidAlternative | InvalidAlternative)[]; readonly canonical: string }
   | { readonly tag: string };
 
 /** What a range means, alternative by alternative. */
-export function explain(range: string, options?: Options): Explanation;
+export function explain(range: string | Range, options?: Options): Explanation;
 
 /** Why a range is invalid; undefined where it's valid. */
-export function diagnose(range: string, options?: GrammarOptions): Diagnosis | undefined;
+export function diagnose(range: string | Range, options?: GrammarOptions): Diagnosis | undefined;
 
 /** The parts of a package with a range, such as `@scope/name@^1.2`. */
 export interface PackageParts {

@@ -2,44 +2,73 @@
 
 import { INVALID_VERSION, NO, NOT_UTF8, NO_MEMORY, TAG, YES, ask1, ask2, indexesOfBytes, json, outOfMemory, text, wasm, write } from './calls.js';
 import {
-  DEPENDENCY, NAME_WITH_VERSION, PACKAGE, RANGE, REFERENCE, VERSION_REFERENCE, errorOf, expectString, invalid, kindOf, optionsOf, reasonOf,
-  withIndexes,
+  DEPENDENCY, NAME_WITH_VERSION, PACKAGE, RANGE, REFERENCE, VERSION_REFERENCE, errorOf, expectBoolean, expectOptions, expectString, invalid,
+  kindOf, questionOf, reasonOf, versionText, withIndexes,
 } from './errors.js';
 import { askFits } from './held.js';
 import { filterList, findInList, linesOf, sortList } from './lists.js';
+import { VersionList } from './ranges.js';
 import { askDifference, askIncrement, isReleaseType, nextVersion } from './steps.js';
-import { Version, compareTexts, versionText } from './versions.js';
+import { Version, compareTexts } from './versions.js';
 
 export { PackageSyntaxError, RangeSyntaxError, TagError, VersionSyntaxError } from './errors.js';
 export { Range, VersionList } from './ranges.js';
 export { IncrementError } from './steps.js';
 export { Version } from './versions.js';
 
+const OF_LIST = ['grammar', 'preReleases', 'skipInvalid'];
+
+/** The text of a range, and how it's asked; most are asked without options. */
+function questionOfOne(range, options, names) {
+  if (typeof range === 'string' && options === undefined) return { source: range, grammar: 0, name: 'npm', pre: 0 };
+  const { texts: [source], ...settings } = questionOf({ range }, options, names);
+  return { source, ...settings };
+}
+
 export function matches(range, version, options) {
   const tested = versionText(version, 'version');
-  const { grammar, pre } = optionsOf(options);
-  const code = askFits(grammar, expectString(range, 'range'), tested, pre);
+  const { source, grammar, pre } = questionOfOne(range, options);
+  const code = askFits(grammar, source, tested, pre);
   if (code >= 0) return code === YES;
-  throw errorOf(code, grammar, [range], [tested]);
+  throw errorOf(code, grammar, [source], [tested]);
+}
+
+/** Whether invalid versions are left out. */
+function skipsInvalid(options) {
+  return expectBoolean(options?.skipInvalid ?? false, 'options.skipInvalid');
+}
+
+/** What `ask` returns of a list of versions in which invalid ones match nothing. */
+function askLenient(versions, ask) {
+  const list = new VersionList(versions);
+  try {
+    return ask(list);
+  } finally {
+    list.free();
+  }
 }
 
 export function filter(range, versions, options) {
-  const { grammar, pre } = optionsOf(options);
-  return filterList(grammar, expectString(range, 'range'), versions, pre);
+  const { source, grammar, name, pre } = questionOfOne(range, options, OF_LIST);
+  if (!skipsInvalid(options)) return filterList(grammar, source, versions, pre);
+  return askLenient(versions, (list) => list.filter(source, { grammar: name, preReleases: pre === 1 }));
 }
 
 export function best(range, versions, options) {
-  const { grammar, pre } = optionsOf(options);
-  return findInList(wasm.best, grammar, expectString(range, 'range'), versions, pre);
+  const { source, grammar, name, pre } = questionOfOne(range, options, OF_LIST);
+  if (!skipsInvalid(options)) return findInList(wasm.best, grammar, source, versions, pre);
+  return askLenient(versions, (list) => list.best(source, { grammar: name, preReleases: pre === 1 }));
 }
 
 export function lowest(range, versions, options) {
-  const { grammar, pre } = optionsOf(options);
-  return findInList(wasm.lowest, grammar, expectString(range, 'range'), versions, pre);
+  const { source, grammar, name, pre } = questionOfOne(range, options, OF_LIST);
+  if (!skipsInvalid(options)) return findInList(wasm.lowest, grammar, source, versions, pre);
+  return askLenient(versions, (list) => list.lowest(source, { grammar: name, preReleases: pre === 1 }));
 }
 
-export function sort(versions) {
-  return sortList(versions);
+export function sort(versions, options) {
+  expectOptions(options, ['skipInvalid']);
+  return skipsInvalid(options) ? askLenient(versions, (list) => list.sort()) : sortList(versions);
 }
 
 export function compare(one, other) {
@@ -68,10 +97,10 @@ export function difference(one, other) {
 
 /** Asks about two ranges; the answer is yes or no. */
 function askRanges(call, one, other, options) {
-  const { grammar, pre } = optionsOf(options);
-  const code = ask2(call, grammar, expectString(one, 'one'), expectString(other, 'other'), pre);
+  const { texts, grammar, pre } = questionOf({ one, other }, options);
+  const code = ask2(call, grammar, texts[0], texts[1], pre);
   if (code >= 0) return code === YES;
-  throw errorOf(code, grammar, [one, other], [], wasm.place());
+  throw errorOf(code, grammar, texts, [], wasm.place());
 }
 
 export function isSubset(one, other, options) {
@@ -98,29 +127,29 @@ function textIf(code, grammar, ranges, place = 0) {
 }
 
 export function common(ranges, options) {
-  const { grammar, pre } = optionsOf(options);
   if (!Array.isArray(ranges)) throw new TypeError(`ranges must be an array, not ${kindOf(ranges)}`);
-  ranges.forEach((range, index) => expectString(range, `ranges[${index}]`));
-  return textIf(ask1(wasm.common_all, grammar, linesOf(ranges), pre), grammar, ranges, wasm.place());
+  const named = Object.fromEntries(Array.from(ranges, (range, index) => [`ranges[${index}]`, range]));
+  const { texts, grammar, pre } = questionOf(named, options);
+  return textIf(ask1(wasm.common_all, grammar, linesOf(texts), pre), grammar, texts, wasm.place());
 }
 
 export function minVersion(range, options) {
-  const { grammar, pre } = optionsOf(options);
-  return textIf(ask1(wasm.min_version, grammar, expectString(range, 'range'), pre), grammar, [range]);
+  const { source, grammar, pre } = questionOfOne(range, options);
+  return textIf(ask1(wasm.min_version, grammar, source, pre), grammar, [source]);
 }
 
 export function canonical(range, options) {
-  const { grammar } = optionsOf(options);
-  return textIf(ask1(wasm.normal, grammar, expectString(range, 'range')), grammar, [range]);
+  const { source, grammar } = questionOfOne(range, options);
+  return textIf(ask1(wasm.normal, grammar, source), grammar, [source]);
 }
 
 export function explain(range, options) {
-  const { grammar, pre } = optionsOf(options);
-  const code = ask1(wasm.explain, grammar, expectString(range, 'range'), pre);
-  if (code === TAG) return { tag: canonical(range, options) };
-  if (code !== YES) throw errorOf(code, grammar, [range]);
+  const { source, grammar, name, pre } = questionOfOne(range, options);
+  const code = ask1(wasm.explain, grammar, source, pre);
+  if (code === TAG) return { tag: canonical(source, { grammar: name }) };
+  if (code !== YES) throw errorOf(code, grammar, [source]);
   const { alternatives, normal } = json();
-  const indexes = indexesOfBytes(range);
+  const indexes = indexesOfBytes(source);
   return { alternatives: alternatives.map((it) => alternativeOf(it, indexes)), canonical: normal };
 }
 
@@ -129,11 +158,17 @@ function alternativeOf({ text, error, start, end, lowest, 'pre-releases': preRel
 }
 
 export function diagnose(range, options) {
-  return reasonOf(RANGE, optionsOf(options).grammar, expectString(range, 'range')) ?? undefined;
+  const { source, grammar } = questionOfOne(range, options);
+  return reasonOf(RANGE, grammar, source) ?? undefined;
+}
+
+/** The number of the grammar that the options name. */
+function grammarOf(options) {
+  return questionOf({}, options).grammar;
 }
 
 export function parsePackage(specifier, options) {
-  return packageOf(partsOfKind(PACKAGE, optionsOf(options).grammar, specifier));
+  return packageOf(partsOfKind(PACKAGE, grammarOf(options), specifier));
 }
 
 export function parseReference(specifier) {
@@ -150,7 +185,7 @@ export function parseVersionReference(specifier) {
 }
 
 export function parseDependency(specifier, options) {
-  const found = partsOfKind(DEPENDENCY, optionsOf(options).grammar, specifier);
+  const found = partsOfKind(DEPENDENCY, grammarOf(options), specifier);
   return { kind: found.kind, package: packageOf(found.package), canonical: found.normal };
 }
 

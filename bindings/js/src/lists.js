@@ -1,8 +1,7 @@
 // Lists of versions as texts with a line each.
 
 import { INVALID_VERSION, NO, YES, ask2, codes, places, wasm, write } from './calls.js';
-import { errorOf, kindOf } from './errors.js';
-import { versionText } from './versions.js';
+import { errorOf, kindOf, versionText } from './errors.js';
 
 /** Throws where the versions aren't an array. */
 export function expectArray(versions) {
@@ -10,9 +9,9 @@ export function expectArray(versions) {
   return versions;
 }
 
-/** The texts of a list of versions, each a text or a `Version`. */
+/** The texts of a list of versions, each a text or a `Version`; a hole isn't one. */
 export function textsOf(versions) {
-  return expectArray(versions).map((version, index) => versionText(version, `versions[${index}]`));
+  return Array.from(expectArray(versions), (version, index) => versionText(version, `versions[${index}]`));
 }
 
 /** The texts as lines. A line break within a version is whitespace, as a space is. */

@@ -3,10 +3,9 @@
 import {
   NO_MEMORY, YES, askHeld, codes, currentInstance, handle, isWellFormed, outOfMemory, places, text, wasm, write,
 } from './calls.js';
-import { errorOf, expectString, kindOf, optionsOf } from './errors.js';
+import { INSPECT, RANGE_PARTS, errorOf, questionOf, versionText } from './errors.js';
 import { parse } from './held.js';
 import { expectArray, linesOf, textsOf } from './lists.js';
-import { versionText } from './versions.js';
 
 const collected = new FinalizationRegistry((held) => held.free());
 
@@ -54,22 +53,35 @@ function hold(owner, grammar, range) {
   return new Held(owner, make, wasm.range_free);
 }
 
-// What the library holds of a `Range`, which is private to it, and its options.
-let heldBy;
+// Asks of a range by its address, which is private to `Range`.
+let askRange;
 
 export class Range {
   #held;
   #text;
   #options;
 
-  static {
-    heldBy = (range) => ({ address: range.#held.address, options: range.#options });
+  constructor(range, options) {
+    const { texts, ...settings } = questionOf({ range }, options);
+    [this.#text] = texts;
+    this.#options = settings;
+    this.#held = hold(this, settings.grammar, this.#text);
   }
 
-  constructor(range, options) {
-    this.#text = expectString(range, 'range');
-    this.#options = optionsOf(options);
-    this.#held = hold(this, this.#options.grammar, range);
+  /** Calls with the address of a range, a text or a `Range`, and its options. A text, or with other options, is held until then. */
+  static #ask(range, name, options, call) {
+    if (range instanceof Range && options === undefined) return call(range.#held.address, range.#options, range.#text);
+    const { texts: [text], name: grammar, pre } = questionOf({ [name]: range }, options);
+    const made = new Range(text, { grammar, preReleases: pre === 1 });
+    try {
+      return call(made.#held.address, made.#options, text);
+    } finally {
+      made.free();
+    }
+  }
+
+  static {
+    askRange = Range.#ask;
   }
 
   get text() {
@@ -92,12 +104,22 @@ export class Range {
     throw errorOf(code, this.#options.grammar, [this.#text], [tested]);
   }
 
+  /** Asks of this range and another one, a text of the same grammar or a `Range`. */
+  #askBoth(call, other) {
+    const options = typeof other === 'string' ? this.#given : undefined;
+    return Range.#ask(other, 'other', options, (address) => call(this.#held.address, address) === YES);
+  }
+
   overlaps(other) {
-    return wasm.range_overlap(this.#held.address, expectRange(other, 'other').#held.address) === YES;
+    return this.#askBoth(wasm.range_overlap, other);
   }
 
   equals(other) {
-    return other === this || wasm.range_equal(this.#held.address, expectRange(other, 'other').#held.address) === YES;
+    return other === this || this.#askBoth(wasm.range_equal, other);
+  }
+
+  get #given() {
+    return { grammar: this.#options.name, preReleases: this.#options.pre === 1 };
   }
 
   scans() {
@@ -115,6 +137,14 @@ export class Range {
     return this.#text;
   }
 
+  get [RANGE_PARTS]() {
+    return { text: this.#text, options: this.#given };
+  }
+
+  [INSPECT]() {
+    return `Range <${this.#text}>`;
+  }
+
   free() {
     this.#held.free();
   }
@@ -124,11 +154,6 @@ export class Range {
 function scanOf(line) {
   const [code, low, high] = line.split(' ');
   return { isPre: Number(code) === YES, low, high };
-}
-
-function expectRange(range, name) {
-  if (!(range instanceof Range)) throw new TypeError(`${name} must be a Range, not ${kindOf(range)}`);
-  return range;
 }
 
 /** Parses versions, which the library then holds for their owner. */
@@ -155,25 +180,26 @@ export class VersionList {
   }
 
   /** Asks of the range: the code, YES or NO. */
-  #ask(call, range) {
-    const { address, options } = heldBy(expectRange(range, 'range'));
-    const code = call(this.#held.address, address, options.pre);
-    if (code < 0) throw errorOf(code, options.grammar, [range.text]);
-    return code;
+  #ask(call, range, options) {
+    return askRange(range, 'range', options, (address, { grammar, pre }, text) => {
+      const code = call(this.#held.address, address, pre);
+      if (code < 0) throw errorOf(code, grammar, [text]);
+      return code;
+    });
   }
 
-  filter(range) {
-    this.#ask(wasm.list_filter, range);
+  filter(range, options) {
+    this.#ask(wasm.list_filter, range, options);
     const answers = codes();
     return this.#versions.filter((_, index) => answers[index] === YES);
   }
 
-  best(range) {
-    return this.#ask(wasm.list_best, range) === YES ? this.#versions[wasm.place()] : undefined;
+  best(range, options) {
+    return this.#ask(wasm.list_best, range, options) === YES ? this.#versions[wasm.place()] : undefined;
   }
 
-  lowest(range) {
-    return this.#ask(wasm.list_lowest, range) === YES ? this.#versions[wasm.place()] : undefined;
+  lowest(range, options) {
+    return this.#ask(wasm.list_lowest, range, options) === YES ? this.#versions[wasm.place()] : undefined;
   }
 
   sort() {

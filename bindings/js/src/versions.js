@@ -1,7 +1,7 @@
 // Versions.
 
 import { NO_MEMORY, YES, askCompare, json, outOfMemory, text, wasm, write } from './calls.js';
-import { VERSION, expectString, invalid, kindOf } from './errors.js';
+import { INSPECT, VERSION, VERSION_TEXT, invalid, versionText } from './errors.js';
 
 export class Version {
   #text;
@@ -9,9 +9,10 @@ export class Version {
   #numbers;
 
   constructor(version) {
-    const code = wasm.version(write(expectString(version, 'version')));
+    const source = versionText(version, 'version');
+    const code = wasm.version(write(source));
     if (code === NO_MEMORY) throw outOfMemory();
-    if (code !== YES) throw invalid(VERSION, 0, version);
+    if (code !== YES) throw invalid(VERSION, 0, source);
     this.#text = text();
   }
 
@@ -72,6 +73,14 @@ export class Version {
   toJSON() {
     return this.#text;
   }
+
+  get [VERSION_TEXT]() {
+    return this.#text;
+  }
+
+  [INSPECT]() {
+    return `Version <${this.#text}>`;
+  }
 }
 
 /** The parts of a version, its numbers as texts; undefined where it's invalid. */
@@ -91,13 +100,6 @@ function exactly(number) {
   const value = Number(number);
   if (!Number.isSafeInteger(value)) throw new RangeError(`${number} is above Number.MAX_SAFE_INTEGER; toString() has it`);
   return value;
-}
-
-/** The text of a version that is a text or a `Version`. */
-export function versionText(version, name) {
-  if (typeof version === 'string') return version;
-  if (version instanceof Version) return version.toString();
-  throw new TypeError(`${name} must be a string or a Version, not ${kindOf(version)}`);
 }
 
 /** The order of two versions by precedence: -1, 0 or 1. */

@@ -3,6 +3,7 @@
 import assert from 'node:assert/strict';
 import { createRequire } from 'node:module';
 import { test } from 'node:test';
+import { inspect } from 'node:util';
 import { wasm } from '../out/package/calls.js';
 import * as modules from '../out/package/index.js';
 
@@ -103,6 +104,7 @@ for (const [kind, semver] of [['ES modules', modules], ['CommonJS', common]]) {
     assert.deepEqual(third.start, third.end);
     assert.equal(any.start ?? any.end, null);
     assert.deepEqual(semver.explain('latest'), { tag: 'latest' });
+    assert.equal('tag' in semver.explain('1'), false);
     assert.deepEqual(semver.explain('1 ||').alternatives.map(({ text }) => text), ['1']);
     const { text, error } = semver.explain('é😀 ||1..2').alternatives[1];
     assert.deepEqual([text, error.start, error.end], ['1..2', 8, 10]);
@@ -138,7 +140,7 @@ for (const [kind, semver] of [['ES modules', modules], ['CommonJS', common]]) {
 
   test(`${kind}: arguments of another type`, () => {
     const calls = [
-      [() => semver.matches(1, '1.0.0'), 'range must be a string, not number'],
+      [() => semver.matches(1, '1.0.0'), 'range must be a string or a Range, not number'],
       [() => semver.matches('1', null), 'version must be a string or a Version, not null'],
       [() => semver.filter('1', '1.0.0'), 'versions must be an array, not string'],
       [() => semver.filter('1', ['1.0.0', 2]), 'versions[1] must be a string or a Version, not number'],
@@ -149,9 +151,18 @@ for (const [kind, semver] of [['ES modules', modules], ['CommonJS', common]]) {
       [() => semver.matches('1', '1.0.0', null), 'options must be an object, not null'],
       [() => semver.matches('1', '1.0.0', { preReleases: 1 }), 'options.preReleases must be a boolean, not number'],
       [() => semver.common('1'), 'ranges must be an array, not string'],
-      [() => semver.common(['1', 2]), 'ranges[1] must be a string, not number'],
-      [() => new Range([]), 'range must be a string, not an array'],
-      [() => new Range('1').overlaps('1'), 'other must be a Range, not string'],
+      [() => semver.common(['1', 2]), 'ranges[1] must be a string or a Range, not number'],
+      [() => semver.common(['1', , '2']), 'ranges[1] must be a string or a Range, not undefined'],
+      [() => semver.filter('1', ['1.0.0', , '2.0.0']), 'versions[1] must be a string or a Version, not undefined'],
+      [() => semver.sort([, '1.0.0']), 'versions[0] must be a string or a Version, not undefined'],
+      [() => new VersionList([, '1.0.0']), 'versions[0] must be a string or a Version, not undefined'],
+      [() => semver.sort([], { preReleases: true }), 'options has no "preReleases"'],
+      [() => semver.matches('1', '1.0.0', { skipInvalid: true }), 'options has no "skipInvalid"'],
+      [() => semver.filter('1', [], { skipInvalid: 1 }), 'options.skipInvalid must be a boolean, not number'],
+      [() => new Version({}), 'version must be a string or a Version, not object'],
+      [() => semver.isSubset('1', {}), 'other must be a string or a Range, not object'],
+      [() => new Range([]), 'range must be a string or a Range, not an array'],
+      [() => new Range('1').overlaps(1), 'other must be a string or a Range, not number'],
       [() => semver.parsePackage(undefined), 'specifier must be a string, not undefined'],
     ];
     for (const [call, message] of calls) {
@@ -212,7 +223,10 @@ for (const [kind, semver] of [['ES modules', modules], ['CommonJS', common]]) {
     assert.equal(attempt(() => list.lowest(new Range('latest'))).tag, 'latest');
     assert.deepEqual(new VersionList([]).filter(new Range('*')), []);
     assert.deepEqual(new VersionList(['1.2.0-a']).filter(new Range('1', { preReleases: true })), ['1.2.0-a']);
-    assert.equal(attempt(() => list.filter('1')).message, 'range must be a Range, not string');
+    assert.equal(attempt(() => list.filter(1)).message, 'range must be a string or a Range, not number');
+    assert.deepEqual([list.filter('^1'), list.best('^1 || 2'), list.lowest('1')], [['1.2.0', '1.10.0\n'], '2.0.0', '1.2.0']);
+    assert.equal(attempt(() => list.best('1..2')).name, 'RangeSyntaxError');
+    assert.deepEqual(new VersionList(['1.2.0-a']).filter('1', { preReleases: true }), ['1.2.0-a']);
     assert.equal(attempt(() => list.filter(new Range('latest'))).tag, 'latest');
     list.free();
     assert.equal(attempt(() => list.filter(new Range('1'))).message, 'the value was freed');
@@ -220,6 +234,63 @@ for (const [kind, semver] of [['ES modules', modules], ['CommonJS', common]]) {
     const kept = new VersionList(versions);
     versions.reverse();
     assert.deepEqual([kept.filter(new Range('1')), kept.sort()], [['1.2.0'], ['1.2.0', '2.0.0']]);
+  });
+
+  for (const [copy, others] of [['this', semver], ['another', semver === modules ? common : modules]]) {
+    test(`${kind}: a Range or a Version of ${copy} copy in place of a text`, () => {
+      const range = (text, options) => new others.Range(text, options);
+      const versions = ['1.2.0', '1.3.0-a', '1.10.0', '2.0.0'].map((text) => new others.Version(text));
+      const [two, pre, three, four] = versions;
+      assert.deepEqual([semver.matches(range('^1.2'), three), semver.matches(range('^1.2'), pre)], [true, false]);
+      assert.equal(semver.matches(range('^1.2', { preReleases: true }), pre), true);
+      assert.equal(semver.matches(range('^1.2', { preReleases: true }), pre, { preReleases: false }), false);
+      assert.equal(semver.matches(range('^1.2'), pre, { preReleases: true }), true);
+      assert.deepEqual(semver.filter(range('^1'), versions), [two, three]);
+      assert.deepEqual([semver.best(range('^1'), versions), semver.lowest(range('^1'), versions)], [three, two]);
+      assert.deepEqual(semver.sort([four, pre, two]), [two, pre, four]);
+      assert.deepEqual([semver.compare(two, three), new Version('1.3.0').compare(three), `${new Version(two)}`], [-1, -1, '1.2.0']);
+      assert.equal(semver.increment(two, 'minor'), '1.3.0');
+      assert.equal(semver.isSubset(range('^1.3'), '^1.2') && semver.isSubset('^1.3', range('^1.2')), true);
+      assert.deepEqual([semver.counterexample(range('1'), '2'), semver.overlaps('1', range('1.2'))], ['1.0.0', true]);
+      assert.equal(semver.isEquivalent(range('1.x'), range('^1')), true);
+      assert.deepEqual([semver.common([range('1'), '^1.2']), semver.minVersion(range('>1.0.0'))], ['1.2.0', '1.0.1']);
+      assert.deepEqual([semver.canonical(range('>=1.2 <2')), semver.explain(range('1.x')).canonical], ['^1.2.0', '1']);
+      assert.equal(semver.diagnose(range('1')), undefined);
+      assert.deepEqual([`${new Range(range('^1'))}`, new Range(range('1', { preReleases: true })).matches('1.2.0-a')], ['^1', true]);
+      assert.equal(new Range('^1').overlaps(range('1.2')) && new Range('^1').equals(range('1.x')), true);
+      assert.deepEqual(new VersionList(versions).filter(range('>1.2')), [three, four]);
+      assert.deepEqual(new VersionList(versions).filter(range('1'), { preReleases: true }), [two, pre, three]);
+      const strict = range('1', { grammar: 'strict' });
+      assert.equal(semver.isSubset(strict, '1'), true);
+      assert.equal(attempt(() => semver.isSubset('>=1 <2', strict)).name, 'RangeSyntaxError');
+      const { name, message } = attempt(() => semver.isSubset(range('1'), strict));
+      assert.deepEqual([name, message], ['TypeError', 'other is a Range of the grammar "strict", not "npm"']);
+    });
+  }
+
+  test(`${kind}: overlaps and equals of a text`, () => {
+    const range = new Range('^1.2');
+    assert.deepEqual([range.overlaps('1.4'), range.overlaps('2'), range.equals('>=1.2 <2'), range.equals('^1.3')], [true, false, true, false]);
+    assert.ok(attempt(() => range.overlaps('1..2')) instanceof RangeSyntaxError);
+    assert.ok(attempt(() => new Range('1', { grammar: 'strict' }).equals('1 || 2')) instanceof RangeSyntaxError);
+  });
+
+  test(`${kind}: invalid versions are left out`, () => {
+    const [versions, skipInvalid] = [['2.0.0', 'x', '1.2.0-a', '1.2.0', '', '\ud800', '1.x'], { skipInvalid: true }];
+    assert.deepEqual(semver.filter('1 || 2', versions, skipInvalid), ['2.0.0', '1.2.0']);
+    assert.deepEqual(semver.filter('1', versions, { preReleases: true, ...skipInvalid }), ['1.2.0-a', '1.2.0']);
+    assert.deepEqual([semver.best('*', versions, skipInvalid), semver.lowest('*', versions, skipInvalid)], ['2.0.0', '1.2.0']);
+    assert.equal(semver.best('3', versions, skipInvalid), undefined);
+    assert.deepEqual(semver.sort(versions, skipInvalid), ['1.2.0-a', '1.2.0', '2.0.0']);
+    for (const call of ['filter', 'best', 'lowest']) {
+      assert.equal(attempt(() => semver[call]('1', versions, { skipInvalid: false })).index, 1, call);
+      assert.ok(attempt(() => semver[call]('1..2', versions, skipInvalid)) instanceof RangeSyntaxError, call);
+    }
+    assert.equal(attempt(() => semver.sort(versions, {})).index, 1);
+  });
+
+  test(`${kind}: Node shows a value`, () => {
+    assert.equal(inspect([new Version('v1.2.3-a+b'), new Range('^1.2')]), '[ Version <1.2.3-a+b>, Range <^1.2> ]');
   });
 
   test(`${kind}: using frees a value`, { skip: !Symbol.dispose && 'the host has no using' }, () => {

@@ -17,12 +17,14 @@ const listed: string[] = new VersionList(['1.3.0']).filter(range);
 range[Symbol.dispose]();
 const first: string | undefined = lowest('1', ['1.3.0']);
 const meaning = explain('1 || 2');
-const errors: Diagnosis[] = meaning.tag === undefined ? meaning.alternatives.flatMap((it) => it.error ?? []) : [];
+const errors: Diagnosis[] = 'tag' in meaning ? [] : meaning.alternatives.flatMap((it) => it.error ?? []);
+const tag: string | undefined = 'tag' in meaning ? meaning.tag : undefined;
+const valid: string[] = filter(range, texts, { skipInvalid: true });
 const lowestThere: same | null = satisfiesThere('1.3.0', new RangeThere('^1.2')) ? minVersion('^1.2') : null;
-// @ts-expect-error a range is a text
+// @ts-expect-error a range is a string or a Range
 matches(1, '1.0.0');
 // @ts-expect-error no such option
 satisfies('1.0.0', '1', { preReleases: true });
 // @ts-expect-error no such grammar
 matches('1', '1.0.0', { grammar: 'deno' });
-export { isMatch, texts, version, highest, parsed, sets, first, listed, errors, lowestThere };
+export { isMatch, texts, version, highest, parsed, sets, first, listed, errors, tag, valid, lowestThere };
