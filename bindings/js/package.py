@@ -1,5 +1,6 @@
 #!/usr/bin/env python3
-"""Makes the npm package, which has the sources, the module as base64, the same as CommonJS, and types for both; and the page.
+"""Makes the npm package, which has the sources, the same as CommonJS, types for both, and the module once, compressed and as base64; and the
+page.
 
     bindings/js/package.py
 
@@ -16,6 +17,7 @@ TOP = HERE.parents[1]
 sys.path.insert(0, str(HERE.parent))
 sys.dont_write_bytecode = True
 import library
+import lz4
 
 SOURCES = HERE / "src"
 WASM = HERE / "out/semver.wasm"
@@ -43,9 +45,10 @@ SUB_PATHS = {
         "valid": "validRange",
     },
 }
-MODULES_OF_PAGE = ("wasm", "calls", "errors", "held", "versions", "lists", "ranges", "index")
+MODULES_OF_PAGE = ("expand", "calls", "errors", "held", "versions", "lists", "ranges", "index")
 IMPORT = re.compile(r"^import \{([^}]*)\} from '(\.[^']+)\.js';\n", re.M)
-IMPORT_OF_PAGE = re.compile(r"^import \{[^}]*\} from '[^']+';\n", re.M)
+IMPORT_OF_SCRIPT = re.compile(r"^import ('[^']+');\n", re.M)
+IMPORT_OF_PAGE = re.compile(r"^import (?:\{[^}]*\} from )?'[^']+';\n", re.M)
 EXPORT_FROM = re.compile(r"^export \{([^}]*)\} from '(\.[^']+)\.js';\n", re.M)
 EXPORT = re.compile(r"^export (?=(?:function|class|const|let) (\w+))", re.M)
 DEFAULT = re.compile(r"^export default ", re.M)
@@ -58,6 +61,7 @@ def names(listed):
 def as_commonjs(source):
     """An ES module of this package as CommonJS. It knows the forms of import and export that the sources have, and no others."""
     exported = EXPORT.findall(source)
+    source = IMPORT_OF_SCRIPT.sub(r"require(\1);\n", source)
     source = IMPORT.sub(lambda it: f"const {{ {names(it[1])} }} = require('{it[2]}.cjs');\n", source)
     for listed, module in EXPORT_FROM.findall(source):
         exported += [f"{name}: require('{module}.cjs').{name}" for name in names(listed).split(", ")]
@@ -70,9 +74,11 @@ def as_commonjs(source):
     return f"'use strict';\n{source}\nmodule.exports = {{\n{members}}};\n"
 
 
-def wasm_module(wasm):
-    text = base64.b64encode(wasm.read_bytes()).decode()
-    return f"// semver.wasm, as base64.\nexport const base64 =\n  '{text}';\n"
+def module_script(wasm):
+    """A script that is the same for ES modules and CommonJS, so that the package has the module once: neither reads the other's files."""
+    module = wasm.read_bytes()
+    text = base64.b64encode(lz4.compress(module)).decode()
+    return f"globalThis[Symbol.for('deno-semver.wasm')] = {{\n  size: {len(module)},\n  base64: '{text}',\n}};\n"
 
 
 def write_sub_path(folder, name, exports):
@@ -109,10 +115,10 @@ def without_links(page):
     return re.sub(r"\[([^\]]*)\]\((?!NODE_SEMVER)[^)]*\)", r"\1", page)
 
 
-def make_page(sources):
+def make_page(sources, module):
     """Makes the page as one file, out/page/index.html, so that a browser opens it from a disk too. In one script, no two modules may have
     the same name."""
-    modules = [sources[f"{name}.js"] for name in MODULES_OF_PAGE]
+    modules = [module, *(sources[f"{name}.js"] for name in MODULES_OF_PAGE)]
     modules += [(HERE / f"page/{name}.js").read_text() for name in ("number-line", "page")]
     script = "\n".join(EXPORT.sub("", EXPORT_FROM.sub("", IMPORT_OF_PAGE.sub("", module))) for module in modules)
     style = (HERE / "page/style.css").read_text()
@@ -128,12 +134,15 @@ def make(wasm):
     shutil.rmtree(FOLDER, ignore_errors=True)
     FOLDER.mkdir(parents=True)
     sources = {str(path.relative_to(SOURCES)): path.read_text() for path in SOURCES.rglob("*.js")}
-    sources["wasm.js"] = wasm_module(wasm)
     for name, source in sources.items():
         (FOLDER / name).parent.mkdir(exist_ok=True)
         (FOLDER / name).write_text(source)
         (FOLDER / name).with_suffix(".cjs").write_text(as_commonjs(source))
     make_sub_paths()
+    module = module_script(wasm)
+    (FOLDER / "module").mkdir()
+    (FOLDER / "module/semver.js").write_text(module)
+    (FOLDER / "module/package.json").write_text('{ "type": "commonjs" }\n')
     for name in ENTRANCES:
         types = (SOURCES / f"{name}.d.ts").read_text()
         (FOLDER / f"{name}.d.ts").write_text(types)
@@ -142,7 +151,7 @@ def make(wasm):
         shutil.copy(path, FOLDER)
     for path in (HERE / "README.md", TOP / "docs/NODE_SEMVER.md"):
         (FOLDER / path.name).write_text(without_links(path.read_text()))
-    make_page(sources)
+    make_page(sources, module)
 
 
 def why_stale():

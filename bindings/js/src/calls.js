@@ -1,6 +1,7 @@
 // The calls of semver.wasm: texts in, a code out, and then what the call wrote.
 
-import { base64 } from './wasm.js';
+import './module/semver.js';
+import { expand } from './expand.js';
 
 /** The codes of the C API: answers are 0 and above, the others are negative. */
 export const NO = 0;
@@ -17,12 +18,13 @@ const SHORT = 48; // up to this length a loop over the characters is faster than
 const ADDRESSES = 2 ** 32;
 const NOT_ENCODABLE = 0xff; // a byte that is in no UTF-8, so that a text with it is rejected
 
-/** The bytes of the module. A loop takes a fifth of the time of `Uint8Array.from`, which takes longer than all else in an import. */
+/** The bytes of the module. A loop takes a fifth of the time of `Uint8Array.from`. */
 function bytesOfModule() {
+  const { base64, size } = globalThis[Symbol.for('deno-semver.wasm')];
   const characters = atob(base64);
   const bytes = new Uint8Array(characters.length);
   for (let i = 0; i < bytes.length; i++) bytes[i] = characters.charCodeAt(i);
-  return bytes;
+  return expand(bytes, size);
 }
 
 const compiled = new WebAssembly.Module(bytesOfModule());

@@ -1,11 +1,12 @@
 // What the package is made of: it imports nothing but itself, so that it runs in every host, and both kinds of modules have one API.
 
 import assert from 'node:assert/strict';
-import { existsSync, readFileSync, readdirSync } from 'node:fs';
+import { existsSync, readFileSync, readdirSync, statSync } from 'node:fs';
 import { join } from 'node:path';
 import { createRequire } from 'node:module';
 import { test } from 'node:test';
 import * as compat from '../out/package/compat.js';
+import { expand } from '../out/package/expand.js';
 import * as index from '../out/package/index.js';
 import { timesOfImports } from './imports.mjs';
 
@@ -15,7 +16,7 @@ const read = (name) => readFileSync(new URL(name, folder), 'utf8');
 const withoutComments = (source) => source.replace(/\/\*[^]*?\*\/|\/\/.*/g, '');
 const folders = ['', 'compat', 'compat/classes', 'compat/functions', 'compat/ranges'];
 const names = folders.flatMap((it) => readdirSync(new URL(it, folder)).map((name) => join(it, name)))
-  .filter((name) => /\.c?js$/.test(name) && !name.startsWith('wasm.'));
+  .filter((name) => /\.c?js$/.test(name));
 
 for (const name of names) {
   test(`${name} imports nothing of Node`, () => {
@@ -25,9 +26,21 @@ for (const name of names) {
   });
 }
 
-test('semver.wasm imports nothing', () => {
-  const { base64 } = require('../out/package/wasm.cjs');
-  assert.deepEqual(WebAssembly.Module.imports(new WebAssembly.Module(Buffer.from(base64, 'base64'))), []);
+test('the module is semver.wasm, is there once, and imports nothing', () => {
+  const module = readFileSync(new URL('../out/semver.wasm', import.meta.url));
+  const { base64, size } = globalThis[Symbol.for('deno-semver.wasm')];
+  assert.ok(module.equals(expand(Buffer.from(base64, 'base64'), size)));
+  assert.deepEqual(WebAssembly.Module.imports(new WebAssembly.Module(module)), []);
+  const files = readdirSync(folder, { withFileTypes: true, recursive: true }).filter((it) => it.isFile());
+  const sizes = files.map(({ path, name }) => statSync(join(path, name)).size);
+  assert.equal(sizes.filter((it) => it > 100_000).length, 1);
+  const unpacked = sizes.reduce((sum, it) => sum + it);
+  assert.ok(unpacked <= 700_000, `${unpacked} bytes`);
+});
+
+test('a block of LZ4 is expanded', () => {
+  const block = [0x10, 97, 1, 0, 0xff, 0, ...Buffer.from('bcdefghijklmnop'), 15, 0, 0, 0x30, 120, 121, 122];
+  assert.equal(String(Buffer.from(expand(block, 42))), 'aaaaabcdefghijklmnopbcdefghijklmnopbcdexyz');
 });
 
 for (const [name, modules] of [['index', index], ['compat', compat]]) {
