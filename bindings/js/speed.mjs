@@ -47,6 +47,18 @@ function print(name, ours, theirs) {
   console.log(`${name.padEnd(32)} ${ours.padStart(10)} ${(theirs ?? '').padStart(18)}`);
 }
 
+/** The sum of the numbers, so that each is asked. */
+const numbers = ({ major, minor, patch }) => major + minor + patch;
+
+function fails(call) {
+  try {
+    call();
+    return false;
+  } catch {
+    return true;
+  }
+}
+
 const item = (i) => versions[i % versions.length];
 const range = new semver.Range(RANGE);
 const others = other && new other.Range(RANGE);
@@ -69,8 +81,16 @@ print('two texts, satisfies', ...both(each, (library, i) => library.satisfies(it
 print('two texts, matches', each((i) => semver.matches(RANGE, item(i))));
 const compareHeld = (values) => each((i) => values[i % values.length].compare(values[(i * 7) % values.length]));
 print('compare two held versions', compareHeld(held), when(() => compareHeld(theirs)));
+const [heldHere, heldThere] = [compat, other].map((library) => library && versions.map((text) => new library.SemVer(text)));
+print('compare two held SemVers', compareHeld(heldHere), when(() => compareHeld(heldThere)));
 print('compare', ...both(each, (library, i) => library.compare(item(i), '1.2.3')));
 print('valid', ...both(each, (library, i) => library.valid(item(i))));
+print('new SemVer', ...both(each, (library, i) => new library.SemVer(item(i))));
+const numbersOf = (Kind) => each((i) => numbers(new Kind(item(i))));
+print('the numbers of a text', numbersOf(semver.Version), when(() => numbersOf(other.SemVer)));
+print('an invalid range, satisfies', ...both(each, (library, i) => library.satisfies(item(i), `^1.2.${i}.4`)));
+print('an invalid range, matches', each((i) => fails(() => semver.matches(`^1.2.${i}.4`, item(i)))), when(() => each((i) => fails(() => new other.Range(`^1.2.${i}.4`)))));
+print('new Range', ...both(each, (library, i) => new library.Range(`^1.${i}.0`)));
 print('subset', ...both(each, (library, i) => library.subset(`^1.${i % 100}.0`, RANGE)));
 print(`filter ${LIST} versions`, once(() => semver.filter(RANGE, long)), when(() => once(() => long.filter((it) => others.test(it)))));
 print(`filter a held list of ${LIST}`, once(() => list.filter(range)));

@@ -1,6 +1,6 @@
 // Versions.
 
-import { NO_MEMORY, YES, askCompare, json, outOfMemory, text, wasm, write } from './calls.js';
+import { NO_MEMORY, YES, askCompare, outOfMemory, text, wasm, write } from './calls.js';
 import { INSPECT, VERSION, VERSION_TEXT, invalid, versionText } from './errors.js';
 
 export class Version {
@@ -63,7 +63,7 @@ export class Version {
 
   /** The three numbers, and 0 for a release; NaN in place of what can't be compared so. */
   get #comparable() {
-    return (this.#numbers ??= comparableOf(this.#text));
+    return (this.#numbers ??= comparableOf(this.#fields));
   }
 
   toString() {
@@ -83,17 +83,23 @@ export class Version {
   }
 }
 
-/** The parts of a version, its numbers as texts; undefined where it's invalid. */
-export function partsOf(version) {
-  const code = wasm.version_parts(write(version));
-  if (code === NO_MEMORY) throw outOfMemory();
-  return code === YES ? json() : undefined;
+/** The parts of a version as it is displayed, its numbers as texts. */
+function partsOf(displayed) {
+  const [version, build] = splitAt(displayed, '+');
+  const [numbers, pre] = splitAt(version, '-');
+  const [major, minor, patch] = numbers.split('.');
+  return { major, minor, patch, pre: pre?.split('.') ?? [], build: build?.split('.') ?? [] };
 }
 
-function comparableOf(version) {
-  const [numbers] = version.split(/[-+]/, 1);
-  const exact = numbers.split('.').map((number) => (Number.isSafeInteger(Number(number)) ? Number(number) : NaN));
-  return [...exact, version[numbers.length] === '-' ? NaN : 0];
+/** What stands before the first such character and behind it; undefined where there is none. */
+function splitAt(text, character) {
+  const at = text.indexOf(character);
+  return at < 0 ? [text] : [text.slice(0, at), text.slice(at + 1)];
+}
+
+function comparableOf({ major, minor, patch, pre }) {
+  const exact = [major, minor, patch].map((number) => (Number.isSafeInteger(Number(number)) ? Number(number) : NaN));
+  return [...exact, pre.length ? NaN : 0];
 }
 
 function exactly(number) {

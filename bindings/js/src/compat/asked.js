@@ -32,9 +32,10 @@ function matchesEach(set, version, includesPre) {
   return set.some((comparators) => comparators.every((it) => it.test(version)) && (includesPre || comparators.some(allows)));
 }
 
-/** Some pre-releases of 0.0.0, of which the sets match one alike between two bounds, the lowest first. */
-function preReleasesOfZero(...sets) {
+/** Some pre-releases of 0.0.0, of which the sets match one alike between two bounds, the lowest first; none where they match none. */
+function preReleasesOfZero(includesPre, ...sets) {
   const bounds = sets.flat(2).filter((it) => !isAny(it) && isPreOfZero(it.semver)).map(({ semver }) => semver.version);
+  if (!includesPre && bounds.length === 0) return [];
   const versions = ['0.0.0-0', ...bounds.flatMap((bound) => [bound, `${bound}.0`])];
   return versions.map((version) => new SemVer(version)).sort((one, other) => one.compare(other));
 }
@@ -46,7 +47,7 @@ function fromZero(set) {
 
 /** The text of the lowest version that matches; null where there is none. */
 export function lowestOf(set, includesPre) {
-  const lowest = preReleasesOfZero(set).find((it) => matchesEach(set, it, includesPre));
+  const lowest = preReleasesOfZero(includesPre, set).find((it) => matchesEach(set, it, includesPre));
   if (lowest) return lowest.version;
   const code = ask1(wasm.min_version, 0, fromZero(set), Number(includesPre));
   if (code !== YES && code !== NO) throw outOfMemory();
@@ -56,13 +57,13 @@ export function lowestOf(set, includesPre) {
 /** Whether a version matches both sets. */
 export function haveCommon(one, other, includesPre) {
   const isCommon = (version) => matchesEach(one, version, includesPre) && matchesEach(other, version, includesPre);
-  return preReleasesOfZero(one, other).some(isCommon) || askBoth(wasm.common, one, other, includesPre);
+  return preReleasesOfZero(includesPre, one, other).some(isCommon) || askBoth(wasm.common, one, other, includesPre);
 }
 
 /** Whether the other set matches each version that the first one matches. */
 export function isWithin(one, other, includesPre) {
   const isMissing = (version) => matchesEach(one, version, includesPre) && !matchesEach(other, version, includesPre);
-  return !preReleasesOfZero(one, other).some(isMissing) && askBoth(wasm.within, one, other, includesPre);
+  return !preReleasesOfZero(includesPre, one, other).some(isMissing) && askBoth(wasm.within, one, other, includesPre);
 }
 
 function askBoth(call, one, other, includesPre) {

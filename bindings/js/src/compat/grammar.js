@@ -13,14 +13,31 @@ function grammarOf(isLoose) {
   const numbers = `(?<major>${number})\\.(?<minor>${number})\\.(?<patch>${number})`;
   const partial = `[v=\\s]*(?<major>${part})(?:\\.(?<minor>${part})(?:\\.(?<patch>${part})${pre}${build})?)?`;
   return {
-    version: new RegExp(`^${isLoose ? '[v=\\s]*' : 'v?'}${numbers}${pre}${build}$`),
+    version: new RegExp(withoutNames(`^${isLoose ? '[v=\\s]*' : 'v?'}${numbers}${pre}${build}$`)),
     partial: new RegExp(`^${partial}$`),
     comparator: new RegExp(`^(?<operator>\\^|~>?|[<>]?=?)${partial}$`),
   };
 }
 
+/** The expression with groups that have no names, which are found faster. */
+function withoutNames(expression) {
+  return expression.replace(/\?<\w+>/g, '');
+}
+
 const STRICT = grammarOf(false);
 const LOOSE = grammarOf(true);
+
+const PLAIN_NUMBER = '(?:0|[1-9]\\d{0,14})';
+const PLAIN_PRE = '-(?:0|[1-9]\\d*|\\d*[A-Za-z-][A-Za-z\\d-]*)(?:\\.(?:0|[1-9]\\d*|\\d*[A-Za-z-][A-Za-z\\d-]*))*';
+const PLAIN = new RegExp(`^(?!0\\.0\\.0-)${PLAIN_NUMBER}\\.${PLAIN_NUMBER}\\.${PLAIN_NUMBER}(?:${PLAIN_PRE})?$`);
+
+/**
+ * Whether the text is a version as most are, which the library reads as node-semver does: by the strict grammar, with exact numbers, without
+ * a build, and not a pre-release of 0.0.0.
+ */
+export function isPlain(text) {
+  return typeof text === 'string' && text.length <= LONGEST_VERSION && PLAIN.test(text);
+}
 
 /** The regular expressions that these options ask for. */
 export function grammarFor(options) {

@@ -1,17 +1,18 @@
 // Ranges as node-semver has them. They are read here, into comparators; which versions these match, the library says.
 
 import { kindOf } from '../errors.js';
-import { haveCommon, matches, textOf } from './asked.js';
+import { haveCommon, matches, matchesText, textOf } from './asked.js';
 import { Comparator, isComparator, parsed } from './comparator.js';
 import { desugar } from './desugar.js';
+import { isPlain } from './grammar.js';
 import { optionsOf } from './options.js';
 
 const MOST_READ = 1000;
 const LONGEST_READ = 256;
 const NOTHING = '<0.0.0-0';
 
-// The alternatives that were read last, by their texts, for each of the four kinds of options.
-const alternatives = [new Map(), new Map(), new Map(), new Map()];
+// What the ranges that were read last are, by their texts, for each of the four kinds of options; null for an invalid one.
+const readings = [new Map(), new Map(), new Map(), new Map()];
 
 export class Range {
   constructor(range, options) {
@@ -26,12 +27,13 @@ export class Range {
     if (range instanceof Comparator) {
       this.raw = range.value;
       this.set = [[range]];
+      this.format();
     } else {
-      if (typeof range !== 'string') throw new TypeError(`range must be a string, a Range or a Comparator, not ${kindOf(range)}`);
-      this.raw = range.trim().split(/\s+/).join(' ');
-      this.set = setOf(this.raw, settings);
+      const reading = readingOf(range, settings) ?? read(range, settings); // which throws
+      this.raw = reading.raw;
+      this.set = [...reading.set];
+      this.range = reading.range;
     }
-    this.format();
   }
 
   format() {
@@ -44,8 +46,7 @@ export class Range {
   }
 
   test(version) {
-    const tested = version ? parsed(version, this.options) : undefined;
-    return tested !== undefined && matches(this.set, this.range, tested, this.includePrerelease);
+    return isMatch(this, version, this.options);
   }
 
   intersects(range, options) {
@@ -55,31 +56,57 @@ export class Range {
   }
 }
 
-export function rangeOf(range, options) {
-  return new Range(range, options);
+/** Whether the version, a text or a `SemVer`, matches a range, or what a text reads as; false where it's invalid. */
+export function isMatch({ set, range }, version, options) {
+  const includesPre = Boolean(options.includePrerelease);
+  if (isPlain(version)) return matchesText(range, version, includesPre);
+  const tested = version ? parsed(version, options) : undefined;
+  return tested !== undefined && matches(set, range, tested, includesPre);
+}
+
+/** What a range is, or a text reads as: its `set` and its `range`; undefined where it's invalid. It isn't to be changed. */
+export function readable(range, options) {
+  if (typeof range === 'string') return readingOf(range, options) ?? undefined;
+  return range instanceof Range || range instanceof Comparator ? new Range(range, options) : undefined;
+}
+
+/** What a text reads as; null where it's invalid. */
+function readingOf(text, options) {
+  const known = readings[(options.loose ? 2 : 0) + (options.includePrerelease ? 1 : 0)];
+  const found = known.get(text);
+  if (found !== undefined) return found;
+  const reading = orNull(() => read(text, options));
+  if (text?.length <= LONGEST_READ) {
+    if (known.size >= MOST_READ) known.delete(known.keys().next().value);
+    known.set(text, reading);
+  }
+  return reading;
+}
+
+function orNull(call) {
+  try {
+    return call();
+  } catch (error) {
+    if (error instanceof TypeError) return null;
+    throw error;
+  }
+}
+
+function read(text, options) {
+  if (typeof text !== 'string') throw new TypeError(`range must be a string, a Range or a Comparator, not ${kindOf(text)}`);
+  const raw = text.trim().split(/\s+/).join(' ');
+  const set = setOf(raw, options);
+  return { raw, set, range: textOf(set) };
 }
 
 /** The alternatives of a range. Where one matches any version it is the only one, and those that match nothing are left out. */
 function setOf(range, options) {
-  const read = range.split('||').map((text) => alternativeOf(text.trim(), options)).filter((comparators) => comparators.length > 0);
+  const read = range.split('||').map((text) => comparatorsOf(text.trim(), options)).filter((comparators) => comparators.length > 0);
   if (read.length === 0) throw new TypeError(`Invalid SemVer Range: ${range}`);
   const set = read.filter(([first]) => first.value !== NOTHING);
   if (set.length === 0) return [read[0]];
   const any = set.find((comparators) => comparators.length === 1 && comparators[0].value === '');
   return any ? [any] : set;
-}
-
-/** The comparators of an alternative. The same list is returned for the same text. */
-function alternativeOf(text, options) {
-  const known = alternatives[2 * Number(Boolean(options.loose)) + Number(Boolean(options.includePrerelease))];
-  const found = known.get(text);
-  if (found) return found;
-  const comparators = comparatorsOf(text, options);
-  if (text.length <= LONGEST_READ) {
-    if (known.size >= MOST_READ) known.delete(known.keys().next().value);
-    known.set(text, comparators);
-  }
-  return comparators;
 }
 
 /** The comparators of an alternative, each once. One that matches nothing is the only one, and one that matches any version isn't kept. */

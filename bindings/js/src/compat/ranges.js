@@ -4,28 +4,21 @@ import { YES, ask2, codes, outOfMemory, wasm } from '../calls.js';
 import { kindOf } from '../errors.js';
 import { linesOf } from '../lists.js';
 import { isWithin, lowestOf } from './asked.js';
-import { Comparator } from './comparator.js';
+import { Comparator, parsed } from './comparator.js';
+import { isPlain } from './grammar.js';
 import { optionsOf } from './options.js';
-import { Range } from './range.js';
+import { Range, isMatch, readable } from './range.js';
 import { SemVer } from './semver.js';
 import { compare } from './versions.js';
 
-/** The range; undefined where it's invalid. */
-function readable(range, options) {
-  try {
-    return new Range(range, options);
-  } catch (error) {
-    if (error instanceof TypeError) return undefined;
-    throw error;
-  }
-}
-
 export function satisfies(version, range, options) {
-  return readable(range, options)?.test(version) ?? false;
+  const settings = optionsOf(options);
+  const read = readable(range, settings);
+  return read !== undefined && isMatch(read, version, settings);
 }
 
 export function validRange(range, options) {
-  const read = readable(range, options);
+  const read = readable(range, optionsOf(options));
   return read ? read.range || '*' : null;
 }
 
@@ -53,12 +46,28 @@ export function subset(sub, dom, options) {
 /** The version of the list that `call`, the highest or the lowest, finds among those that match. */
 function find(call, versions, range, options) {
   if (!Array.isArray(versions)) throw new TypeError(`versions must be an array, not ${kindOf(versions)}`);
-  const read = readable(range, options);
-  const matching = read ? versions.filter((version) => read.test(version)) : [];
-  if (matching.length === 0) return null;
-  const lines = linesOf(matching.map((version) => new SemVer(version, options).version));
+  const settings = optionsOf(options);
+  const read = readable(range, settings);
+  const places = read ? matchingPlaces(read, versions, settings) : [];
+  if (places.length === 0) return null;
+  const lines = linesOf(places.map((place) => lineOf(versions[place], settings)));
   if (ask2(call, 0, '*', lines, 1) !== YES) throw outOfMemory();
-  return matching[wasm.place()];
+  return versions[places[wasm.place()]];
+}
+
+/** The text of a version for a list of lines; empty where it's invalid. */
+function lineOf(version, options) {
+  if (isPlain(version)) return version;
+  return (version && parsed(version, options)?.version) || '';
+}
+
+/** The places of the versions that match. Pre-releases of 0.0.0, which the library isn't asked about, are tested one by one. */
+function matchingPlaces(read, versions, options) {
+  const lines = linesOf(versions.map((version) => lineOf(version, options)));
+  if (ask2(wasm.filter, 0, read.range || '*', lines, Number(Boolean(options.includePrerelease))) !== YES) throw outOfMemory();
+  const answers = codes();
+  const isPlaceOfMatch = (version, place) => (isPlain(version) ? answers[place] === YES : isMatch(read, version, options));
+  return versions.flatMap((version, place) => (isPlaceOfMatch(version, place) ? [place] : []));
 }
 
 export function maxSatisfying(versions, range, options) {
@@ -70,9 +79,8 @@ export function minSatisfying(versions, range, options) {
 }
 
 export function simplifyRange(versions, range, options) {
-  const read = readable(range, options);
   const sorted = [...versions].sort((one, other) => compare(one, other, options));
-  const simplified = runsOf(sorted, (version) => read?.test(version)).map((run) => textOfRun(run, sorted)).join(' || ');
+  const simplified = runsOf(sorted, (version) => satisfies(version, range, options)).map((run) => textOfRun(run, sorted)).join(' || ');
   const original = typeof range.raw === 'string' ? range.raw : String(range);
   return simplified.length < original.length ? simplified : range;
 }

@@ -17,17 +17,17 @@ export class SemVer {
       throw new TypeError(`Invalid version. Must be a string. Got type "${typeof version}".`);
     }
     if (version.length > LONGEST_VERSION) throw new TypeError(`version is longer than ${LONGEST_VERSION} characters`);
-    const parts = grammarFor(settings).version.exec(version.trim())?.groups;
+    const parts = grammarFor(settings).version.exec(version.trim());
     if (!parts) throw new TypeError(`Invalid Version: ${version}`);
     this.options = settings;
     this.loose = Boolean(settings.loose);
     this.includePrerelease = Boolean(settings.includePrerelease);
     this.raw = version;
-    this.major = exactly(parts.major, 'major');
-    this.minor = exactly(parts.minor, 'minor');
-    this.patch = exactly(parts.patch, 'patch');
-    this.prerelease = parts.pre ? parts.pre.split('.').map(identifierOf) : [];
-    this.build = parts.build ? parts.build.split('.') : [];
+    this.major = exactly(parts[1], 'major');
+    this.minor = exactly(parts[2], 'minor');
+    this.patch = exactly(parts[3], 'patch');
+    this.prerelease = parts[4] ? parts[4].split('.').map(identifierOf) : [];
+    this.build = parts[5] ? parts[5].split('.') : [];
     this.format();
     expectParsed(this.version);
   }
@@ -101,7 +101,7 @@ function identifierOf(identifier) {
 }
 
 /** Throws where the library doesn't parse the version. */
-function expectParsed(version) {
+export function expectParsed(version) {
   const code = wasm.version(write(version));
   if (code === YES) return;
   throw code === NO_MEMORY ? outOfMemory() : new TypeError(`Invalid Version: ${version}`);
@@ -112,7 +112,7 @@ export function semverOf(version, options) {
 }
 
 /** The order of two valid versions by precedence. */
-function orderOf(one, other) {
+export function orderOf(one, other) {
   const code = askCompare(one, other);
   if (code < 0) throw outOfMemory();
   return code - 1;

@@ -4,7 +4,8 @@ import { YES, outOfMemory, places, wasm, write } from '../calls.js';
 import { kindOf } from '../errors.js';
 import { linesOf } from '../lists.js';
 import { askDifference } from '../steps.js';
-import { SemVer } from './semver.js';
+import { isPlain } from './grammar.js';
+import { SemVer, expectParsed, orderOf } from './semver.js';
 
 export function parse(version, options, throwErrors = false) {
   if (version instanceof SemVer) return version;
@@ -17,6 +18,10 @@ export function parse(version, options, throwErrors = false) {
 }
 
 export function valid(version, options) {
+  if (isPlain(version)) {
+    expectParsed(version);
+    return version;
+  }
   return parse(version, options)?.version ?? null;
 }
 
@@ -44,6 +49,7 @@ export function prerelease(version, options) {
 // ---- two versions
 
 export function compare(one, other, options) {
+  if (isPlain(one) && isPlain(other)) return orderOf(one, other);
   return new SemVer(one, options).compare(new SemVer(other, options));
 }
 
