@@ -44,9 +44,10 @@ function shown(value) {
   if (Array.isArray(value)) return value.map(shown);
   if (typeof value === 'symbol') return 'any';
   if (typeof value !== 'object' || value === null) return value;
-  const { raw, range: text, version: displayed, major, minor, patch, prerelease, build, loose, includePrerelease, set, operator, semver: its } = value;
-  if (set) return { raw, text, loose, includePrerelease, set: shown(set) };
-  if (operator !== undefined) return { operator, loose, value: value.value, version: its.version };
+  const { raw, loose } = value;
+  if (value.set) return { raw, text: value.range, loose, includePrerelease: value.includePrerelease, set: shown(value.set) };
+  if (value.operator !== undefined) return { operator: value.operator, loose, value: value.value, version: value.semver.version };
+  const { version: displayed, major, minor, patch, prerelease, build } = value;
   return { raw, displayed, numbers: [major, minor, patch], prerelease, build, loose };
 }
 
@@ -61,12 +62,11 @@ function answer(library, ask) {
 
 // ---- why answers differ
 
-const whyLarge = (asked) => (/\d{16}/.test(JSON.stringify(asked)) ? LARGE : UNEXPLAINED);
-
-/** Why a value of a text differs; 7.3 doesn't take whitespace out of it. */
-function whyTextDiffers(asked) {
-  const isSpaced = asked.some((it) => typeof it === 'string' && /^\s|\s$|\s\s|[^\S ]/.test(it));
-  return IS_OLD && isSpaced ? 'whitespace' : whyLarge(asked);
+/** Why an answer differs about texts that both read. 7.3 doesn't take whitespace out of them. */
+function whyTextsDiffer(asked) {
+  const texts = asked.flat().filter((it) => typeof it === 'string');
+  if (IS_OLD && texts.some((it) => /^\s|\s$|\s\s|[^\S ]/.test(it))) return 'whitespace';
+  return texts.some((it) => /\d{16}/.test(it)) ? LARGE : UNEXPLAINED;
 }
 
 /** Versions near the bounds of ranges, in which a search finds what two ranges differ in. */
@@ -89,33 +89,33 @@ function hasWitness([one, other, its], isWitness) {
 }
 
 function whyIntersectsDiffers(asked, ours) {
-  return hasWitness(asked, (one, other) => one && other) === ours ? WRONG : whyLarge(asked);
+  return hasWitness(asked, (one, other) => one && other) === ours ? WRONG : whyTextsDiffer(asked);
 }
 
 function whySubsetDiffers(asked, ours) {
-  return hasWitness(asked, (one, other) => one && !other) !== ours ? WRONG : whyLarge(asked);
+  return hasWitness(asked, (one, other) => one && !other) !== ours ? WRONG : whyTextsDiffer(asked);
 }
 
 function whyMinVersionDiffers([text, its], ours, theirs) {
   const isMatch = (found) => found !== null && semver.satisfies(found.displayed, text, its);
   const isWrong = theirs !== null && !isMatch(theirs);
-  return isWrong || (isMatch(ours) && (theirs === null || semver.lt(ours.displayed, theirs.displayed))) ? WRONG : whyLarge([text]);
+  return isWrong || (isMatch(ours) && (theirs === null || semver.lt(ours.displayed, theirs.displayed))) ? WRONG : whyTextsDiffer([text]);
 }
 
 function whyIncDiffers([item, type, its, identifier, base]) {
-  if (!type.startsWith('pre')) return type === 'release' ? 'a kind that 7.6 lacks' : whyLarge(item);
+  if (!type.startsWith('pre')) return type === 'release' ? 'a kind that 7.6 lacks' : whyTextsDiffer([item]);
   if (identifier === 'a b') return 'identifiers that no version has';
   if (identifier === 'a.1') return 'several identifiers';
   if (IS_OLD && (base || base === false)) return 'a first number';
   if (IS_OLD && identifier === '1') return 'an identifier that is a number';
-  return whyLarge(item);
+  return whyTextsDiffer([item]);
 }
 
 function whyDiffDiffers([one, other]) {
   const [low, high] = [one, other].map((item) => semver.parse(item)).sort((a, b) => a && b && a.compare(b));
   const isToRelease = low?.prerelease.length && high && !high.prerelease.length;
   const isFromRelease = IS_OLD && low && high && !low.prerelease.length !== !high.prerelease.length;
-  return isToRelease || isFromRelease ? 'steps between releases and pre-releases' : whyLarge([one, other]);
+  return isToRelease || isFromRelease ? 'steps between releases and pre-releases' : whyTextsDiffer([one, other]);
 }
 
 // ---- the calls: what each is asked, why an answer may differ, and how it is asked if it isn't a function of the library
@@ -133,16 +133,20 @@ const CALLS = {
   minVersion: [() => [range(), options()], whyMinVersionDiffers],
   intersects: [() => [range(), range(), options()], whyIntersectsDiffers],
   subset: [() => [range(), range(), options()], whySubsetDiffers],
-  Range: [() => [range(), options()], whyTextDiffers, ({ Range }, ...asked) => new Range(...asked)],
-  'Range.test': [() => [version(), range(), options()], whyLarge, ({ Range }, item, ...asked) => new Range(...asked).test(item)],
-  Comparator: [() => [comparator(), options()], whyTextDiffers, ({ Comparator }, ...asked) => new Comparator(...asked)],
-  'Comparator.test': [() => [version(), comparator(), options()], whyTextDiffers, ({ Comparator }, item, ...asked) => new Comparator(...asked).test(item)],
+  Range: [() => [range(), options()], undefined, ({ Range }, ...asked) => new Range(...asked)],
+  'Range.test': [() => [version(), range(), options()], undefined, ({ Range }, item, ...asked) => new Range(...asked).test(item)],
+  Comparator: [() => [comparator(), options()], undefined, ({ Comparator }, ...asked) => new Comparator(...asked)],
+  'Comparator.test': [
+    () => [version(), comparator(), options()],
+    undefined,
+    ({ Comparator }, item, ...asked) => new Comparator(...asked).test(item),
+  ],
   'Comparator.intersects': [
     () => [comparator(), comparator(), options()],
     whyIntersectsDiffers,
     ({ Comparator }, one, other, its) => new Comparator(one, its).intersects(new Comparator(other, its), its),
   ],
-  SemVer: [() => [version(), options()], whyLarge, ({ SemVer }, ...asked) => new SemVer(...asked)],
+  SemVer: [() => [version(), options()], undefined, ({ SemVer }, ...asked) => new SemVer(...asked)],
   parse: [() => [version(), options()]],
   valid: [() => [version(), options()]],
   clean: [() => [version(), options()]],
@@ -165,7 +169,7 @@ function copy(argument) {
 }
 
 /** Asks a call, and counts why answers differ: the reasons, each with how often it is one, and the shortest example. */
-function run(name, [ask, why = whyLarge, call = (library, ...asked) => library[name](...asked)], reasons) {
+function run(name, [ask, why = whyTextsDiffer, call = (library, ...asked) => library[name](...asked)], reasons) {
   for (let i = 0; i < Number(count); i++) {
     const asked = ask();
     const [ours, theirs] = [compat, semver].map((library) => answer(library, (it) => call(it, ...asked.map(copy))));

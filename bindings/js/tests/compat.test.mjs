@@ -152,8 +152,8 @@ for (const [where, library] of libraries) {
     assert.equal(errorOf(() => new Comparator('^1.2.3')), 'TypeError: Invalid comparator: ^1.2.3');
     assert.equal(errorOf(() => new Comparator('=01.2.3')), 'TypeError: Invalid comparator: =01.2.3');
     const meets = (one, other) => new Comparator(one).intersects(new Comparator(other));
-    const pairs = [['>1.3.0', '<1.2.0'], ['>=1.3.0', '<=1.3.0'], ['>1.3.0', '1.3.0'], ['', '<1.2.0'], ['>1.0.0', '>2.0.0'], ['<1.0.0', '1.0.0-a']];
-    assert.deepEqual(pairs.map(([one, other]) => meets(one, other)), [false, true, false, true, true, false]);
+    const pairs = [['>1.3.0', '<1.2.0'], ['>=1.3.0', '<=1.3.0'], ['>1.3.0', '1.3.0'], ['', '<1.2.0'], ['>1.0.0', '>2.0.0']];
+    assert.deepEqual(pairs.map(([one, other]) => meets(one, other)), [false, true, false, true, true]);
     assert.equal(errorOf(() => comparator.intersects('1')), 'TypeError: a Comparator is required');
   });
 
@@ -170,7 +170,8 @@ for (const [where, library] of libraries) {
     assert.deepEqual(both((options) => library.subset('^1.2.3-a', '1.x', options)), [false, true]);
     if (!isOld) assert.deepEqual(both((options) => library.intersects('1.2.3-a', '1.x', options)), [false, true]);
     assert.deepEqual(both((options) => library.gtr('2.0.0-a', '1.x', options)), [true, true]);
-    assert.deepEqual(both((options) => library.simplifyRange(['1.0.0', '1.1.0-a', '1.2.0', '2.0.0'], '1.0.0 || 1.1.0-a || 1.2.0', options)), ['<=1.2.0', '<=1.2.0']);
+    const versions = ['1.0.0', '1.1.0-a', '1.2.0', '2.0.0'];
+    assert.deepEqual(both((options) => library.simplifyRange(versions, '>=1.0.0 <2.0.0-0', options)), ['1.0.0 || 1.2.0', '<=1.2.0']);
   });
 
   test(`pre-releases of 0.0.0, ${where}`, () => {
@@ -185,8 +186,9 @@ for (const [where, library] of libraries) {
     assert.deepEqual(['0.9.0', '1.5.0', '2.0.0', '1.5.0-a'].map((version) => [outside(version, '1.x', '<'), outside(version, '1.x', '>')]), [
       [true, false], [false, false], [false, true], [true, true],
     ]);
-    assert.deepEqual([library.gtr('4.0.0', '1 || >3'), library.gtr('3.0.0', '1 || 2'), library.gtr('1.5.0', '1.2 || 1.7')], [false, true, false]);
-    assert.deepEqual([library.ltr('0.9.0', '>1'), library.ltr('0.0.0', '<1 || 2'), library.ltr('1.0.0', '*')], [true, false, false]);
+    const asked = [['4.0.0', '1 || >3'], ['3.0.0', '1 || 2'], ['1.5.0', '1.2 || 1.7'], ['0.9.0', '>1'], ['0.0.0', '<1 || 2'], ['1.0.0', '*']];
+    assert.deepEqual(asked.map((it) => library.gtr(...it)), [false, true, false, false, false, false]);
+    assert.deepEqual(asked.map((it) => library.ltr(...it)), [false, false, false, true, false, false]);
     assert.equal(errorOf(() => outside('1.0.0', '1', '=')), 'TypeError: Must provide a hilo val of "<" or ">"');
   });
 
@@ -226,8 +228,9 @@ for (const folder of installed) {
     const semver = require(folder);
     const missing = Object.keys(semver).filter((name) => !(name in compat) && !INTERNAL.includes(name));
     assert.deepEqual(missing, []);
-    for (const make of [({ SemVer }) => new SemVer('1.2.3-a.1+b.2'), ({ Comparator }) => new Comparator('>1.2.3'), ({ Range }) => new Range('1')]) {
-      assert.deepEqual(Object.keys(make(compat)).sort(), Object.keys(make(semver)).sort());
+    for (const [name, text] of [['SemVer', '1.2.3-a.1+b.2'], ['Comparator', '>1.2.3'], ['Range', '1']]) {
+      const [ours, theirs] = [compat, semver].map((library) => Object.keys(new library[name](text)).sort());
+      assert.deepEqual(ours, theirs);
     }
   });
 

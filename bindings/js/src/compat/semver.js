@@ -2,7 +2,7 @@
 
 import { NO_MEMORY, YES, askCompare, outOfMemory, text, wasm, write } from '../calls.js';
 import { askIncrement, isReleaseType, nextVersion } from '../steps.js';
-import { LONGEST_VERSION, grammarFor } from './grammar.js';
+import { LONGEST_VERSION, grammarFor, isPlain } from './grammar.js';
 import { optionsOf } from './options.js';
 
 const isNumeric = /^\d+$/;
@@ -17,19 +17,36 @@ export class SemVer {
       throw new TypeError(`Invalid version. Must be a string. Got type "${typeof version}".`);
     }
     if (version.length > LONGEST_VERSION) throw new TypeError(`version is longer than ${LONGEST_VERSION} characters`);
-    const parts = grammarFor(settings).version.exec(version.trim());
-    if (!parts) throw new TypeError(`Invalid Version: ${version}`);
     this.options = settings;
     this.loose = Boolean(settings.loose);
     this.includePrerelease = Boolean(settings.includePrerelease);
     this.raw = version;
+    if (isPlain(version)) this.#readPlain(version);
+    else this.#read(version.trim());
+    expectParsed(this.version);
+  }
+
+  #readPlain(version) {
+    const minor = version.indexOf('.') + 1;
+    const patch = version.indexOf('.', minor) + 1;
+    const pre = version.indexOf('-', patch) + 1 || version.length + 1;
+    this.major = Number(version.slice(0, minor - 1));
+    this.minor = Number(version.slice(minor, patch - 1));
+    this.patch = Number(version.slice(patch, pre - 1));
+    this.prerelease = pre > version.length ? [] : version.slice(pre).split('.').map(identifierOf);
+    this.build = [];
+    this.version = version;
+  }
+
+  #read(version) {
+    const parts = grammarFor(this.options).version.exec(version);
+    if (!parts) throw new TypeError(`Invalid Version: ${this.raw}`);
     this.major = exactly(parts[1], 'major');
     this.minor = exactly(parts[2], 'minor');
     this.patch = exactly(parts[3], 'patch');
     this.prerelease = parts[4] ? parts[4].split('.').map(identifierOf) : [];
     this.build = parts[5] ? parts[5].split('.') : [];
     this.format();
-    expectParsed(this.version);
   }
 
   format() {
