@@ -16,12 +16,13 @@ const ours = fileURLToPath(new URL('../out/package/', import.meta.url));
 const require = createRequire(import.meta.url);
 const { version } = JSON.parse(readFileSync(join(source, 'package.json')));
 
-/** What fails. NODE_SEMVER.md has a row for each but `coerce`, which is left out. */
+/** What fails, by what this prints of it: mistakes of node-semver's, for which NODE_SEMVER.md has a row. */
 const EXPECTED = new Set([]);
 
-/** The folders of tests; those of `internal` and `bin` are about what this package hasn't. */
-const FOLDERS = ['.', 'classes', 'functions', 'ranges', 'integration'];
-const LEFT_OUT = ['map.js', 'preload.js', 'coerce.js'];
+const FOLDERS = ['.', 'classes', 'functions', 'ranges', 'integration', 'internal'];
+
+/** Tests of what this package hasn't, by their paths: node-semver's layout, its modules of its own, and `coerce`. */
+const LEFT_OUT = /^(map|preload|internal[/](?!identifiers)[\w-]+|functions[/]coerce)[.]js$/;
 
 const failed = [];
 let passed = 0;
@@ -79,7 +80,7 @@ tap.strictSame = tap.same;
 /** The module for a name in a test. */
 function resolved(name, from) {
   const path = resolve(from, name).replace(/\.js$/, '');
-  if (path === source) return join(ours, 'compat.cjs');
+  if (path === source || path === join(source, 'internal/identifiers')) return join(ours, 'compat.cjs');
   const place = /[/](classes|functions|ranges)(?:[/]([\w-]+))?$/.exec(path);
   return place && !path.startsWith(join(source, 'test')) ? join(ours, 'compat', place[1], `${place[2] ?? 'index'}.cjs`) : undefined;
 }
@@ -93,10 +94,10 @@ Module._resolveFilename = (name, parent, ...rest) => {
 require.cache.tap = Object.assign(new Module('tap'), { exports: tap, loaded: true, filename: 'tap' });
 
 for (const folder of FOLDERS.filter((it) => existsSync(join(source, 'test', it)))) {
-  const files = readdirSync(join(source, 'test', folder)).filter((it) => it.endsWith('.js') && !LEFT_OUT.includes(it));
-  for (const file of files) {
+  for (const file of readdirSync(join(source, 'test', folder)).filter((it) => it.endsWith('.js'))) {
     where = join(folder, file);
-    const error = thrownBy(() => require(join(source, 'test', folder, file)));
+    if (LEFT_OUT.test(where)) continue;
+    const error = thrownBy(() => require(join(source, 'test', where)));
     if (error) report(false, `the file throws ${error.stack}`);
   }
 }
