@@ -225,7 +225,7 @@ for (const [kind, semver] of [['ES modules', modules], ['CommonJS', common]]) {
     assert.deepEqual(new VersionList(['1.2.0-a']).filter(new Range('1', { preReleases: true })), ['1.2.0-a']);
     assert.equal(attempt(() => list.filter(1)).message, 'range must be a string or a Range, not number');
     assert.deepEqual([list.filter('^1'), list.best('^1 || 2'), list.lowest('1')], [['1.2.0', '1.10.0\n'], '2.0.0', '1.2.0']);
-    assert.equal(attempt(() => list.best('1..2')).name, 'RangeSyntaxError');
+    assert.equal(attempt(() => list.best('^1..2')).name, 'RangeSyntaxError');
     assert.deepEqual(new VersionList(['1.2.0-a']).filter('1', { preReleases: true }), ['1.2.0-a']);
     assert.equal(attempt(() => list.filter(new Range('latest'))).tag, 'latest');
     list.free();
@@ -271,7 +271,7 @@ for (const [kind, semver] of [['ES modules', modules], ['CommonJS', common]]) {
   test(`${kind}: overlaps and equals of a text`, () => {
     const range = new Range('^1.2');
     assert.deepEqual([range.overlaps('1.4'), range.overlaps('2'), range.equals('>=1.2 <2'), range.equals('^1.3')], [true, false, true, false]);
-    assert.ok(attempt(() => range.overlaps('1..2')) instanceof RangeSyntaxError);
+    assert.ok(attempt(() => range.overlaps('^1..2')) instanceof RangeSyntaxError);
     assert.ok(attempt(() => new Range('1', { grammar: 'strict' }).equals('1 || 2')) instanceof RangeSyntaxError);
   });
 
@@ -283,10 +283,10 @@ for (const [kind, semver] of [['ES modules', modules], ['CommonJS', common]]) {
     assert.equal(semver.best('3', versions, skipInvalid), undefined);
     assert.deepEqual(semver.sort(versions, skipInvalid), ['1.2.0-a', '1.2.0', '2.0.0']);
     for (const call of ['filter', 'best', 'lowest']) {
-      assert.equal(attempt(() => semver[call]('1', versions, { skipInvalid: false })).index, 1, call);
-      assert.ok(attempt(() => semver[call]('1..2', versions, skipInvalid)) instanceof RangeSyntaxError, call);
+      assert.equal(attempt(() => semver[call]('1', ['1.0.0', 'x'], { skipInvalid: false })).index, 1, call);
+      assert.ok(attempt(() => semver[call]('^1..2', versions, skipInvalid)) instanceof RangeSyntaxError, call);
     }
-    assert.equal(attempt(() => semver.sort(versions, {})).index, 1);
+    assert.equal(attempt(() => semver.sort(['1.0.0', 'x'], {})).index, 1);
   });
 
   test(`${kind}: Node shows a value`, () => {
