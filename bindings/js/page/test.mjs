@@ -163,7 +163,7 @@ async function pictures() {
 async function served() {
   const top = new URL('../', import.meta.url);
   const server = createServer(({ url }, response) => {
-    const isScript = /^\/(out\/package|tests)\/[\w-]+\.m?js$/.test(url);
+    const isScript = /^\/(out\/package|tests)(\/[\w-]+)+\.m?js$/.test(url);
     response.setHeader('Content-Type', isScript ? 'text/javascript' : 'text/html');
     response.end(isScript ? readFileSync(new URL(url.slice(1), top)) : '');
   });
