@@ -45,7 +45,7 @@ SUB_PATHS = {
         "valid": "validRange",
     },
 }
-MODULES_OF_PAGE = ("expand", "calls", "errors", "held", "versions", "lists", "ranges", "index")
+MODULES_OF_PAGE = ("expand", "calls", "errors", "held", "plain", "versions", "lists", "ranges", "index")
 IMPORT = re.compile(r"^import \{([^}]*)\} from '(\.[^']+)\.js';\n", re.M)
 IMPORT_OF_SCRIPT = re.compile(r"^import ('[^']+');\n", re.M)
 IMPORT_OF_PAGE = re.compile(r"^import (?:\{[^}]*\} from )?'[^']+';\n", re.M)

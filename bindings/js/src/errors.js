@@ -6,14 +6,32 @@ import {
 
 const GRAMMARS = new Map([['npm', 0], ['normalized', 1], ['strict', 2]]);
 
+/** An invalid text. Where it goes wrong takes longer to find than all else, and is found once it's asked. */
 class InvalidTextError extends SyntaxError {
-  constructor(text, { message, start, end, expected }, index) {
+  #find;
+  #found;
+
+  constructor(text, message, index, find) {
     super(message);
     this.text = text;
-    this.start = start;
-    this.end = end;
-    this.expected = expected;
     this.index = index;
+    this.#find = find;
+  }
+
+  get #place() {
+    return (this.#found ??= this.#find());
+  }
+
+  get start() {
+    return this.#place.start;
+  }
+
+  get end() {
+    return this.#place.end;
+  }
+
+  get expected() {
+    return this.#place.expected;
   }
 }
 
@@ -72,20 +90,29 @@ export function withIndexes(error, indexes) {
   return { ...error, start: indexes[error.start], end: indexes[error.end] };
 }
 
-/** Why a text of a kind is invalid, or null where it's valid. */
-export function reasonOf(kind, grammar, source) {
-  if (!isWellFormed(source)) return { message: 'The text has a lone surrogate.', expected: [] };
+/** What is wrong with a text of a kind; null where it's valid. */
+function messageOf(kind, grammar, source) {
+  if (!isWellFormed(source)) return 'The text has a lone surrogate.';
   const code = kind.parse(grammar, source);
   if (code === NO_MEMORY) throw outOfMemory();
-  if (code === YES) return null;
-  const message = text();
-  return { expected: [], ...kind.place?.(grammar, source), message };
+  return code === YES ? null : text();
+}
+
+/** Where an invalid text goes wrong, and what could be there. */
+function placeOf(kind, grammar, source) {
+  return { expected: [], ...(isWellFormed(source) && kind.place?.(grammar, source)) };
+}
+
+/** Why a text of a kind is invalid; null where it's valid. */
+export function reasonOf(kind, grammar, source) {
+  const message = messageOf(kind, grammar, source);
+  return message === null ? null : { ...placeOf(kind, grammar, source), message };
 }
 
 /** The error that a text of a kind is invalid; `index` is its place in a list. */
 export function invalid(kind, grammar, source, index) {
-  const reason = reasonOf(kind, grammar, source) ?? { message: 'The text is invalid.', expected: [] };
-  return new kind.Problem(source, reason, index);
+  const message = messageOf(kind, grammar, source) ?? 'The text is invalid.';
+  return new kind.Problem(source, message, index, () => placeOf(kind, grammar, source));
 }
 
 /** The error of a call that was asked of these texts and returned a code that is no answer. */

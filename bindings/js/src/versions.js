@@ -2,10 +2,11 @@
 
 import { NO_MEMORY, YES, askCompare, outOfMemory, text, wasm, write } from './calls.js';
 import { INSPECT, VERSION, VERSION_TEXT, invalid, versionText } from './errors.js';
+import { isPlain } from './plain.js';
 
 export class Version {
   #text;
-  #parts;
+  #digits;
   #numbers;
 
   constructor(version) {
@@ -13,31 +14,33 @@ export class Version {
     const code = wasm.version(write(source));
     if (code === NO_MEMORY) throw outOfMemory();
     if (code !== YES) throw invalid(VERSION, 0, source);
-    this.#text = text();
+    this.#text = isPlain(source) ? source : text();
   }
 
-  get #fields() {
-    return (this.#parts ??= partsOf(this.#text));
+  /** The text of the three numbers, and each of them. */
+  get #parts() {
+    return (this.#digits ??= /^(\d+)\.(\d+)\.(\d+)/.exec(this.#text));
   }
 
   get major() {
-    return exactly(this.#fields.major);
+    return exactly(this.#parts[1]);
   }
 
   get minor() {
-    return exactly(this.#fields.minor);
+    return exactly(this.#parts[2]);
   }
 
   get patch() {
-    return exactly(this.#fields.patch);
+    return exactly(this.#parts[3]);
   }
 
   get preRelease() {
-    return [...this.#fields.pre];
+    const [version] = this.#text.split('+', 1);
+    return identifiersBehind(version, '-');
   }
 
   get build() {
-    return [...this.#fields.build];
+    return identifiersBehind(this.#text, '+');
   }
 
   get sortKey() {
@@ -63,7 +66,7 @@ export class Version {
 
   /** The three numbers, and 0 for a release; NaN in place of what can't be compared so. */
   get #comparable() {
-    return (this.#numbers ??= comparableOf(this.#fields));
+    return (this.#numbers ??= comparableOf(this.#text, this.#parts));
   }
 
   toString() {
@@ -83,23 +86,15 @@ export class Version {
   }
 }
 
-/** The parts of a version as it is displayed, its numbers as texts. */
-function partsOf(displayed) {
-  const [version, build] = splitAt(displayed, '+');
-  const [numbers, pre] = splitAt(version, '-');
-  const [major, minor, patch] = numbers.split('.');
-  return { major, minor, patch, pre: pre?.split('.') ?? [], build: build?.split('.') ?? [] };
-}
-
-/** What stands before the first such character and behind it; undefined where there is none. */
-function splitAt(text, character) {
+/** The identifiers behind the first such character. */
+function identifiersBehind(text, character) {
   const at = text.indexOf(character);
-  return at < 0 ? [text] : [text.slice(0, at), text.slice(at + 1)];
+  return at < 0 ? [] : text.slice(at + 1).split('.');
 }
 
-function comparableOf({ major, minor, patch, pre }) {
-  const exact = [major, minor, patch].map((number) => (Number.isSafeInteger(Number(number)) ? Number(number) : NaN));
-  return [...exact, pre.length ? NaN : 0];
+function comparableOf(text, [numbers, ...digits]) {
+  const exact = digits.map((number) => (Number.isSafeInteger(Number(number)) ? Number(number) : NaN));
+  return [...exact, text[numbers.length] === '-' ? NaN : 0];
 }
 
 function exactly(number) {

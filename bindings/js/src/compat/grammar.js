@@ -1,5 +1,7 @@
 // node-semver's grammars of versions and of the parts of ranges: the strict one, and the one of `loose`.
 
+import { isPlain } from '../plain.js';
+
 export const LONGEST_VERSION = 256;
 const LONGEST_BUILD = LONGEST_VERSION - '0.0.0+'.length;
 
@@ -27,16 +29,12 @@ function withoutNames(expression) {
 const STRICT = grammarOf(false);
 const LOOSE = grammarOf(true);
 
-const PLAIN_NUMBER = '(?:0|[1-9]\\d{0,14})';
-const PLAIN_PRE = '-(?:0|[1-9]\\d*|\\d*[A-Za-z-][A-Za-z\\d-]*)(?:\\.(?:0|[1-9]\\d*|\\d*[A-Za-z-][A-Za-z\\d-]*))*';
-const PLAIN = new RegExp(`^(?!0\\.0\\.0-)${PLAIN_NUMBER}\\.${PLAIN_NUMBER}\\.${PLAIN_NUMBER}(?:${PLAIN_PRE})?$`);
-
 /**
- * Whether the text is a version as most are, which the library reads as node-semver does: by the strict grammar, with exact numbers, without
- * a build, and not a pre-release of 0.0.0.
+ * Whether the text is a version that the library reads as node-semver does, whatever the options: one as most are, not too long, and not a
+ * pre-release of 0.0.0.
  */
-export function isPlain(text) {
-  return typeof text === 'string' && text.length <= LONGEST_VERSION && PLAIN.test(text);
+export function isUsual(text) {
+  return typeof text === 'string' && text.length <= LONGEST_VERSION && isPlain(text) && !text.startsWith('0.0.0-');
 }
 
 /** The regular expressions that these options ask for. */

@@ -4,7 +4,7 @@ import { kindOf } from '../errors.js';
 import { haveCommon, matches, matchesText, textOf } from './asked.js';
 import { Comparator, isComparator, parsed } from './comparator.js';
 import { desugar } from './desugar.js';
-import { isPlain } from './grammar.js';
+import { isUsual } from './grammar.js';
 import { optionsOf } from './options.js';
 
 const MOST_READ = 1000;
@@ -59,7 +59,7 @@ export class Range {
 /** Whether the version, a text or a `SemVer`, matches a range, or what a text reads as; false where it's invalid. */
 export function isMatch({ set, range }, version, options) {
   const includesPre = Boolean(options.includePrerelease);
-  if (isPlain(version)) return matchesText(range, version, includesPre);
+  if (isUsual(version)) return matchesText(range, version, includesPre);
   const tested = version ? parsed(version, options) : undefined;
   return tested !== undefined && matches(set, range, tested, includesPre);
 }

@@ -5,7 +5,7 @@ import { kindOf } from '../errors.js';
 import { linesOf } from '../lists.js';
 import { isWithin, lowestOf } from './asked.js';
 import { Comparator, parsed } from './comparator.js';
-import { isPlain } from './grammar.js';
+import { isUsual } from './grammar.js';
 import { optionsOf } from './options.js';
 import { Range, isMatch, readable } from './range.js';
 import { SemVer } from './semver.js';
@@ -57,7 +57,7 @@ function find(call, versions, range, options) {
 
 /** The text of a version for a list of lines; empty where it's invalid. */
 function lineOf(version, options) {
-  if (isPlain(version)) return version;
+  if (isUsual(version)) return version;
   return (version && parsed(version, options)?.version) || '';
 }
 
@@ -66,7 +66,7 @@ function matchingPlaces(read, versions, options) {
   const lines = linesOf(versions.map((version) => lineOf(version, options)));
   if (ask2(wasm.filter, 0, read.range || '*', lines, Number(Boolean(options.includePrerelease))) !== YES) throw outOfMemory();
   const answers = codes();
-  const isPlaceOfMatch = (version, place) => (isPlain(version) ? answers[place] === YES : isMatch(read, version, options));
+  const isPlaceOfMatch = (version, place) => (isUsual(version) ? answers[place] === YES : isMatch(read, version, options));
   return versions.flatMap((version, place) => (isPlaceOfMatch(version, place) ? [place] : []));
 }
 

@@ -2,7 +2,7 @@
 
 import { NO_MEMORY, YES, askCompare, outOfMemory, text, wasm, write } from '../calls.js';
 import { askIncrement, isReleaseType, nextVersion } from '../steps.js';
-import { LONGEST_VERSION, grammarFor, isPlain } from './grammar.js';
+import { LONGEST_VERSION, grammarFor, isUsual } from './grammar.js';
 import { optionsOf } from './options.js';
 
 const isNumeric = /^\d+$/;
@@ -21,7 +21,7 @@ export class SemVer {
     this.loose = Boolean(settings.loose);
     this.includePrerelease = Boolean(settings.includePrerelease);
     this.raw = version;
-    if (isPlain(version)) this.#readPlain(version);
+    if (isUsual(version)) this.#readPlain(version);
     else this.#read(version.trim());
     expectParsed(this.version);
   }

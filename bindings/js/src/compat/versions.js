@@ -4,7 +4,7 @@ import { YES, outOfMemory, places, wasm, write } from '../calls.js';
 import { kindOf } from '../errors.js';
 import { linesOf } from '../lists.js';
 import { askDifference } from '../steps.js';
-import { isPlain } from './grammar.js';
+import { isUsual } from './grammar.js';
 import { SemVer, expectParsed, orderOf } from './semver.js';
 
 export function parse(version, options, throwErrors = false) {
@@ -18,7 +18,7 @@ export function parse(version, options, throwErrors = false) {
 }
 
 export function valid(version, options) {
-  if (isPlain(version)) {
+  if (isUsual(version)) {
     expectParsed(version);
     return version;
   }
@@ -49,7 +49,7 @@ export function prerelease(version, options) {
 // ---- two versions
 
 export function compare(one, other, options) {
-  if (isPlain(one) && isPlain(other)) return orderOf(one, other);
+  if (isUsual(one) && isUsual(other)) return orderOf(one, other);
   return new SemVer(one, options).compare(new SemVer(other, options));
 }
 
