@@ -335,7 +335,7 @@ rejects_stale() {
     mkdir "$copy/bindings/js/out"
     echo wasm >"$copy/bindings/js/out/semver.wasm"
     "$copy/bindings/js/package.py"
-    rm "$copy/bindings/js/src/held.js" "$copy/bindings/js/src/compat-values.js"
+    rm "$copy/bindings/js/src/held.js"
     sed -i 's/"held", //' "$copy/bindings/js/package.py"
     echo '// changed' >>"$copy/bindings/js/src/index.js"
     "$copy/bindings/js/package.py"

@@ -64,8 +64,8 @@ if [ "$1" = speed ]; then
     speed
     exit
 fi
-compare "$debian" 8000 & first=$!
-compare "$npm" 2000 & second=$!
+compare "$npm" 8000 & first=$!
+compare "$debian" 2000 & second=$!
 native
 suite
 node --expose-gc --test --test-reporter=dot "$here"/tests/*.test.mjs
