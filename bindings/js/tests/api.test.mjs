@@ -17,6 +17,13 @@ test('held versions whose numbers differ, and held releases, are compared withou
   assert.deepEqual([one.compare(pre), mock.callCount()], [1, 1]);
 });
 
+test('where a text goes wrong is found once, when it is asked', (context) => {
+  const { mock } = context.mock.method(wasm, 'errors');
+  const error = attempt(() => modules.matches('^1.2.3.4', '1.0.0'));
+  assert.deepEqual([error.message, mock.callCount()], ['Unexpected character.', 0]);
+  assert.deepEqual([error.start, error.end, error.expected.length, mock.callCount()], [6, 8, 11, 1]);
+});
+
 for (const [kind, semver] of [['ES modules', modules], ['CommonJS', common]]) {
   const {
     PackageSyntaxError, Range, RangeSyntaxError, TagError, Version, VersionList, VersionSyntaxError,
