@@ -1,4 +1,4 @@
-// What the library is asked of comparators: `set` is a list of alternatives, each a list of comparators.
+// What the library is asked of ranges that are read: `set` is a list of alternatives, each a list of comparators, and `range` is its text.
 //
 // The library begins a range that has an end at 0.0.0. Pre-releases of 0.0.0, which come before it, are thus compared with each comparator
 // here. They come between few bounds, so that each question about them is one about some of them.
@@ -15,8 +15,8 @@ export function textOf(set) {
   return set.map((comparators) => comparators.map(({ value }) => value).join(' ').trim()).join('||').trim();
 }
 
-/** Whether the version, a `SemVer`, matches the set, whose text is `range`. */
-export function matches(set, range, version, includesPre) {
+/** Whether the version, a `SemVer`, matches. */
+export function matches({ set, range }, version, includesPre) {
   return isPreOfZero(version) ? matchesEach(set, version, includesPre) : matchesText(range, version.version, includesPre);
 }
 
@@ -32,42 +32,49 @@ function matchesEach(set, version, includesPre) {
   return set.some((comparators) => comparators.every((it) => it.test(version)) && (includesPre || comparators.some(allows)));
 }
 
-/** Some pre-releases of 0.0.0, of which the sets match one alike between two bounds, the lowest first; none where they match none. */
-function preReleasesOfZero(includesPre, ...sets) {
-  const bounds = sets.flat(2).filter((it) => !isAny(it) && isPreOfZero(it.semver)).map(({ semver }) => semver.version);
-  if (!includesPre && bounds.length === 0) return [];
+/** Whether a range may match a pre-release of 0.0.0. */
+function mayMatchPreOfZero({ range }, includesPre) {
+  return includesPre || range.includes('0.0.0-');
+}
+
+/** Some pre-releases of 0.0.0, of which the ranges match one alike between two bounds, the lowest first; none where they match none. */
+function preReleasesOfZero(ranges, includesPre) {
+  if (!ranges.some((it) => mayMatchPreOfZero(it, includesPre))) return [];
+  const comparators = ranges.flatMap(({ set }) => set.flat());
+  const bounds = comparators.filter((it) => !isAny(it) && isPreOfZero(it.semver)).map(({ semver }) => semver.version);
   const versions = ['0.0.0-0', ...bounds.flatMap((bound) => [bound, `${bound}.0`])];
   return versions.map((version) => new SemVer(version)).sort((one, other) => one.compare(other));
 }
 
-/** The set without pre-releases of 0.0.0, as a range. */
-function fromZero(set) {
-  return set.map((comparators) => `${textOf([comparators])} >=0.0.0`).join('||');
+/** The text of a range without pre-releases of 0.0.0. */
+function fromZero(read, includesPre) {
+  if (!mayMatchPreOfZero(read, includesPre)) return read.range || '*';
+  return read.set.map((comparators) => `${textOf([comparators])} >=0.0.0`).join('||');
 }
 
 /** The text of the lowest version that matches; null where there is none. */
-export function lowestOf(set, includesPre) {
-  const lowest = preReleasesOfZero(includesPre, set).find((it) => matchesEach(set, it, includesPre));
+export function lowestOf(read, includesPre) {
+  const lowest = preReleasesOfZero([read], includesPre).find((it) => matchesEach(read.set, it, includesPre));
   if (lowest) return lowest.version;
-  const code = ask1(wasm.min_version, 0, fromZero(set), Number(includesPre));
+  const code = ask1(wasm.min_version, 0, fromZero(read, includesPre), Number(includesPre));
   if (code !== YES && code !== NO) throw outOfMemory();
   return code === YES ? text() : null;
 }
 
-/** Whether a version matches both sets. */
+/** Whether a version matches both ranges. */
 export function haveCommon(one, other, includesPre) {
-  const isCommon = (version) => matchesEach(one, version, includesPre) && matchesEach(other, version, includesPre);
-  return preReleasesOfZero(includesPre, one, other).some(isCommon) || askBoth(wasm.common, one, other, includesPre);
+  const isCommon = (version) => matchesEach(one.set, version, includesPre) && matchesEach(other.set, version, includesPre);
+  return preReleasesOfZero([one, other], includesPre).some(isCommon) || askBoth(wasm.common, one, other, includesPre);
 }
 
-/** Whether the other set matches each version that the first one matches. */
+/** Whether the other range matches each version that the first one matches. */
 export function isWithin(one, other, includesPre) {
-  const isMissing = (version) => matchesEach(one, version, includesPre) && !matchesEach(other, version, includesPre);
-  return !preReleasesOfZero(includesPre, one, other).some(isMissing) && askBoth(wasm.within, one, other, includesPre);
+  const isMissing = (version) => matchesEach(one.set, version, includesPre) && !matchesEach(other.set, version, includesPre);
+  return !preReleasesOfZero([one, other], includesPre).some(isMissing) && askBoth(wasm.within, one, other, includesPre);
 }
 
 function askBoth(call, one, other, includesPre) {
-  const code = ask2(call, 0, fromZero(one), fromZero(other), Number(includesPre));
+  const code = ask2(call, 0, fromZero(one, includesPre), fromZero(other, includesPre), Number(includesPre));
   if (code < 0) throw outOfMemory();
   return code === YES;
 }

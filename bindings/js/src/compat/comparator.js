@@ -48,7 +48,8 @@ export class Comparator {
 
   intersects(comparator, options) {
     if (!(comparator instanceof Comparator)) throw new TypeError('a Comparator is required');
-    return haveCommon([[this]], [[comparator]], Boolean(optionsOf(options).includePrerelease));
+    const [one, other] = [this, comparator].map((it) => ({ set: [[it]], range: it.value }));
+    return haveCommon(one, other, Boolean(optionsOf(options).includePrerelease));
   }
 }
 

@@ -52,22 +52,27 @@ export class Range {
   intersects(range, options) {
     if (!(range instanceof Range)) throw new TypeError('a Range is required');
     const includesPre = optionsOf(options).includePrerelease || (this.includePrerelease && range.includePrerelease);
-    return haveCommon(this.set, range.set, Boolean(includesPre));
+    return haveCommon(this, range, Boolean(includesPre));
   }
 }
 
 /** Whether the version, a text or a `SemVer`, matches a range, or what a text reads as; false where it's invalid. */
-export function isMatch({ set, range }, version, options) {
+export function isMatch(read, version, options) {
   const includesPre = Boolean(options.includePrerelease);
-  if (isUsual(version)) return matchesText(range, version, includesPre);
+  if (isUsual(version)) return matchesText(read.range, version, includesPre);
   const tested = version ? parsed(version, options) : undefined;
-  return tested !== undefined && matches(set, range, tested, includesPre);
+  return tested !== undefined && matches(read, tested, includesPre);
 }
 
 /** What a range is, or a text reads as: its `set` and its `range`; undefined where it's invalid. It isn't to be changed. */
 export function readable(range, options) {
   if (typeof range === 'string') return readingOf(range, options) ?? undefined;
   return range instanceof Range || range instanceof Comparator ? new Range(range, options) : undefined;
+}
+
+/** The same, and `TypeError` where it's invalid. */
+export function expectReadable(range, options) {
+  return readable(range, options) ?? new Range(range, options);
 }
 
 /** What a text reads as; null where it's invalid. */

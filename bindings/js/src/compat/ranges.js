@@ -3,11 +3,11 @@
 import { YES, ask2, codes, outOfMemory, wasm } from '../calls.js';
 import { kindOf } from '../errors.js';
 import { linesOf } from '../lists.js';
-import { isWithin, lowestOf } from './asked.js';
+import { haveCommon, isWithin, lowestOf } from './asked.js';
 import { Comparator, parsed } from './comparator.js';
 import { isUsual } from './grammar.js';
 import { optionsOf } from './options.js';
-import { Range, isMatch, readable } from './range.js';
+import { Range, expectReadable, isMatch, readable } from './range.js';
 import { SemVer } from './semver.js';
 import { compare } from './versions.js';
 
@@ -23,22 +23,27 @@ export function validRange(range, options) {
 }
 
 export function toComparators(range, options) {
-  return new Range(range, options).set.map((comparators) => comparators.map(({ value }) => value));
+  return expectReadable(range, optionsOf(options)).set.map((comparators) => comparators.map(({ value }) => value));
 }
 
 export function minVersion(range, options) {
-  const { set, includePrerelease } = new Range(range, options);
-  const lowest = lowestOf(set, includePrerelease);
+  const settings = optionsOf(options);
+  const lowest = lowestOf(expectReadable(range, settings), Boolean(settings.includePrerelease));
   return lowest === null ? null : new SemVer(lowest);
 }
 
+/** Asks about two ranges. */
+function askBoth(call, one, other, options) {
+  const settings = optionsOf(options);
+  return call(expectReadable(one, settings), expectReadable(other, settings), Boolean(settings.includePrerelease));
+}
+
 export function intersects(one, other, options) {
-  return new Range(one, options).intersects(new Range(other, options), options);
+  return askBoth(haveCommon, one, other, options);
 }
 
 export function subset(sub, dom, options) {
-  const [one, other] = [new Range(sub, options), new Range(dom, options)];
-  return isWithin(one.set, other.set, Boolean(optionsOf(options).includePrerelease));
+  return askBoth(isWithin, sub, dom, options);
 }
 
 // ---- lists of versions

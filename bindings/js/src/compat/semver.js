@@ -6,6 +6,7 @@ import { LONGEST_VERSION, grammarFor, isUsual } from './grammar.js';
 import { optionsOf } from './options.js';
 
 const isNumeric = /^\d+$/;
+const ZERO = '0'.charCodeAt(0);
 
 export class SemVer {
   constructor(version, options) {
@@ -21,19 +22,23 @@ export class SemVer {
     this.loose = Boolean(settings.loose);
     this.includePrerelease = Boolean(settings.includePrerelease);
     this.raw = version;
-    if (isUsual(version)) this.#readPlain(version);
+    if (isUsual(version)) this.#readUsual(version);
     else this.#read(version.trim());
     expectParsed(this.version);
   }
 
-  #readPlain(version) {
-    const minor = version.indexOf('.') + 1;
-    const patch = version.indexOf('.', minor) + 1;
-    const pre = version.indexOf('-', patch) + 1 || version.length + 1;
-    this.major = Number(version.slice(0, minor - 1));
-    this.minor = Number(version.slice(minor, patch - 1));
-    this.patch = Number(version.slice(patch, pre - 1));
-    this.prerelease = pre > version.length ? [] : version.slice(pre).split('.').map(identifierOf);
+  /** Reads a usual version, whose digits alone are at or above `0`. */
+  #readUsual(version) {
+    let at = 0;
+    const readNumber = () => {
+      let number = 0;
+      for (let unit = version.charCodeAt(at++); unit >= ZERO; unit = version.charCodeAt(at++)) number = 10 * number + unit - ZERO;
+      return number;
+    };
+    this.major = readNumber();
+    this.minor = readNumber();
+    this.patch = readNumber();
+    this.prerelease = at > version.length ? [] : version.slice(at).split('.').map(identifierOf);
     this.build = [];
     this.version = version;
   }
