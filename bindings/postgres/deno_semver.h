@@ -1,3 +1,4 @@
+/* SPDX-License-Identifier: MIT */
 /* What the files of the extension share: strings, errors, and how versions and ranges are stored.
  *
  * The library never calls back, so no error of PostgreSQL passes its frames. What it holds is memory of malloc, so nothing may raise an
@@ -53,6 +54,7 @@ extern text *sv_text(const char *utf8, size_t len);
 /* Errors. With a context that takes soft errors, of PostgreSQL 16, they return. */
 extern void sv_reject_version(Node *context, sv_string version, int32_t code);
 extern void sv_reject_range(Node *context, uint32_t grammar, sv_string range, int32_t code);
+extern void sv_reject_bound(Node *context, const char *bound);
 extern bool sv_is_long_version(Node *context, sv_string version);
 extern bool sv_is_long_range(Node *context, sv_string range);
 

@@ -1,3 +1,4 @@
+/* SPDX-License-Identifier: MIT */
 /* Strings and errors. */
 #include "deno_semver.h"
 
@@ -181,6 +182,10 @@ void sv_reject_range(Node *context, uint32_t grammar, sv_string range, int32_t c
                       errdetail("%s\nAt character %d:\n%s", sv_server(message.at, message.len), characters(range.at, place) + 1,
                                 caret_at(range, place)),
                       expected.len > 0 ? errhint("Expected there: %s.", expected.data) : 0));
+}
+
+void sv_reject_bound(Node *context, const char *bound) {
+    errsave(context, (errcode(ERRCODE_INVALID_TEXT_REPRESENTATION), errmsg("invalid input syntax for type semver_bound: \"%s\"", bound)));
 }
 
 static void reject_length(Node *context, sv_string string, const char *type, int most, const char *hint) {

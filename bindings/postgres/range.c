@@ -1,3 +1,4 @@
+/* SPDX-License-Identifier: MIT */
 /* The type semver_range: what a range matches, as scans of sort keys, and its text.
  *
  * It is stored as a byte for the format, and numbers of 32 bits: how many scans are about releases, how many there are, and where each
@@ -154,7 +155,9 @@ Datum deno_semver_range_recv(PG_FUNCTION_ARGS) {
     int format = pq_getmsgbyte(message), len;
     if (format != FORMAT) ereport(ERROR, errcode(ERRCODE_INVALID_BINARY_REPRESENTATION), errmsg("unsupported format %d of a semver_range", format));
     char *text = pq_getmsgtext(message, message->len - message->cursor, &len);
-    PG_RETURN_POINTER(read_range(NULL, SEMVER_NPM, SEMVER_RESTRICTED, sv_utf8(text)));
+    struct varlena *range = read_range(NULL, SEMVER_NPM, SEMVER_RESTRICTED, sv_utf8(text));
+    warn_of_nothing(range);
+    PG_RETURN_POINTER(range);
 }
 
 PG_FUNCTION_INFO_V1(deno_semver_range_send);

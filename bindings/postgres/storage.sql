@@ -27,17 +27,24 @@ TRUNCATE copied;
 COPY (SELECT * FROM kept) TO :'file';
 COPY copied FROM :'file';
 SELECT count(*) FROM kept JOIN copied USING (package, version) WHERE kept.accepts::text = copied.accepts::text AND kept.bound IS NOT DISTINCT FROM copied.bound;
--- bytes in binary: of a later format, or no version
+-- bytes in binary: of a later format, no version, or a range that matches nothing
 CREATE TABLE sent(version semver);
 CREATE TABLE sent_ranges(range semver_range);
+CREATE TABLE sent_bounds(bound semver_bound);
 \set ON_ERROR_STOP off
 COPY (SELECT '\x01'::bytea || '1.2.3') TO :'file' (FORMAT binary);
 COPY sent FROM :'file' (FORMAT binary);
 COPY (SELECT '\x02'::bytea || '1.2.3') TO :'file' (FORMAT binary);
 COPY sent FROM :'file' (FORMAT binary);
 COPY sent_ranges FROM :'file' (FORMAT binary);
+COPY sent_bounds FROM :'file' (FORMAT binary);
+COPY (SELECT '\x01'::bytea || 'A1 A2') TO :'file' (FORMAT binary);
+COPY sent_bounds FROM :'file' (FORMAT binary);
 COPY (SELECT '\x01'::bytea || '1.2') TO :'file' (FORMAT binary);
 COPY sent FROM :'file' (FORMAT binary);
 COPY sent_ranges FROM :'file' (FORMAT binary);
+COPY (SELECT '\x01'::bytea || '<0') TO :'file' (FORMAT binary);
+COPY sent_ranges FROM :'file' (FORMAT binary);
 \set ON_ERROR_STOP on
 SELECT * FROM sent, sent_ranges;
+DELETE FROM sent_ranges WHERE range::text = '<0';

@@ -1,3 +1,4 @@
+/* SPDX-License-Identifier: MIT */
 /* The type semver, bounds of scans, and their orders. */
 #include "deno_semver.h"
 
@@ -6,7 +7,7 @@
 #include "utils/builtins.h"
 #include "utils/sortsupport.h"
 
-enum { FORMAT = 1 }; /* of what is sent: the version as displayed follows */
+enum { FORMAT = 1 }; /* of what is sent: the version as displayed follows, or the key of a bound */
 
 /* ---- input and output */
 
@@ -108,9 +109,21 @@ struct varlena *sv_bound(const char *key) {
     return bound;
 }
 
+/* Reads a bound, which has the bytes of keys; NULL if it has others, and that is a soft error. */
+static struct varlena *read_bound(Node *context, const char *bound) {
+    for (const char *at = bound; *at; at++) {
+        if (*at >= '!' && *at <= '~') continue;
+        sv_reject_bound(context, bound);
+        return NULL;
+    }
+    return sv_bound(bound);
+}
+
 PG_FUNCTION_INFO_V1(deno_semver_bound_in);
 Datum deno_semver_bound_in(PG_FUNCTION_ARGS) {
-    PG_RETURN_POINTER(sv_bound(PG_GETARG_CSTRING(0)));
+    struct varlena *bound = read_bound(fcinfo->context, PG_GETARG_CSTRING(0));
+    if (!bound) PG_RETURN_NULL();
+    PG_RETURN_POINTER(bound);
 }
 
 PG_FUNCTION_INFO_V1(deno_semver_bound_out);
@@ -121,8 +134,9 @@ Datum deno_semver_bound_out(PG_FUNCTION_ARGS) {
 PG_FUNCTION_INFO_V1(deno_semver_bound_recv);
 Datum deno_semver_bound_recv(PG_FUNCTION_ARGS) {
     StringInfo message = (StringInfo)PG_GETARG_POINTER(0);
-    int len;
-    PG_RETURN_POINTER(sv_bound(pq_getmsgtext(message, message->len - message->cursor, &len)));
+    int format = pq_getmsgbyte(message), len;
+    if (format != FORMAT) ereport(ERROR, errcode(ERRCODE_INVALID_BINARY_REPRESENTATION), errmsg("unsupported format %d of a semver_bound", format));
+    PG_RETURN_POINTER(read_bound(NULL, pq_getmsgtext(message, message->len - message->cursor, &len)));
 }
 
 PG_FUNCTION_INFO_V1(deno_semver_bound_send);
@@ -130,6 +144,7 @@ Datum deno_semver_bound_send(PG_FUNCTION_ARGS) {
     const char *key = VARDATA_ANY(PG_GETARG_VARLENA_PP(0));
     StringInfoData message;
     pq_begintypsend(&message);
+    pq_sendbyte(&message, FORMAT);
     pq_sendtext(&message, key, (int)strlen(key));
     PG_RETURN_BYTEA_P(pq_endtypsend(&message));
 }

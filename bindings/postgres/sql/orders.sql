@@ -11,6 +11,8 @@ CREATE INDEX ON versions(version semver_precedence_ops);
 -- a bound is below each version of its key
 SELECT '1.0.0'::semver > 'A1A0A0~'::semver_bound AS above, '1.0.0'::semver = 'A1A0A0~'::semver_bound AS equal, 'A1A0A0~'::semver_bound < '1.0.0+a'::semver AS below;
 SELECT '0.9.9'::semver < 'A1A0A0~'::semver_bound AS below, '1.0.0-a'::semver >= 'A1A0A0-'::semver_bound AS above;
+SELECT ''::semver_bound < '0.0.0-0'::semver AS below;
+SELECT 'A1 A2'::semver_bound;
 SELECT opcname, amname, amvalidate(c.oid) FROM pg_opclass c JOIN pg_am a ON a.oid = opcmethod WHERE opcname LIKE 'semver%' ORDER BY 1, 2;
 -- joins by hash and by merge
 SET enable_nestloop = off;
