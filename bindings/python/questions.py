@@ -119,9 +119,8 @@ def listed(versions):
     return versions.replace("\r\n", "\n").removesuffix("\n").split("\n") if versions else []
 
 
-def each_answer(range, lines, options):
-    """The answer for each line, of which some may be invalid."""
-    matching = semver.filter(range, lines, skip_invalid=True, **options)
+def each_answer(lines, matching):
+    """The answer for each line, where these match, and some may be invalid."""
     answers, rest = [], list(matching)
     for line in lines:
         try:
@@ -135,15 +134,14 @@ def each_answer(range, lines, options):
     return ["yes", *answers]
 
 
-def place(range, lines, call, options):
-    version = call(range, lines, **options)
+def place(lines, version):
     return ["no"] if version is None else ["yes", str(next(n for n, line in enumerate(lines) if line is version))]
 
 
-def places(lines):
+def places(lines, ordered):
     left = list(enumerate(lines))
     answer = ["yes"]
-    for version in semver.sort(lines):
+    for version in ordered:
         index = next(n for n, (_, line) in enumerate(left) if line is version)
         answer.append(str(left.pop(index)[0]))
     return answer
@@ -158,11 +156,14 @@ def of_texts(name, texts, options):
     if name == "fits":
         return yes_or_no(semver.matches(*texts, **options))
     if name == "filter":
-        return each_answer(texts[0], unique(listed(texts[1])), options)
+        lines = unique(listed(texts[1]))
+        return each_answer(lines, semver.filter(texts[0], lines, skip_invalid=True, **options))
     if name in ("best", "lowest"):
-        return place(texts[0], unique(listed(texts[1])), getattr(semver, name), options)
+        lines = unique(listed(texts[1]))
+        return place(lines, getattr(semver, name)(texts[0], lines, **options))
     if name == "sort":
-        return places(unique(listed(texts[0])))
+        lines = unique(listed(texts[0]))
+        return places(lines, semver.sort(lines))
     if name == "increment":
         kind, base, version, identifier = texts
         return ["yes", semver.increment(version, kind, identifier=identifier, base=BASES[base])]
@@ -173,7 +174,7 @@ def of_texts(name, texts, options):
     if name == "overlap":
         return yes_or_no(semver.overlaps(*texts, **options))
     if name == "within":
-        return found(semver.outside(*texts, **options), "no", "yes")
+        return found(semver.counterexample(*texts, **options), "no", "yes")
     if name == "equivalent":
         return yes_or_no(semver.is_equivalent(*texts, **options))
     if name in ("common", "common_all"):
@@ -264,6 +265,20 @@ def of_values(name, texts, options, again):
     return None
 
 
+def of_lists(name, texts, options):
+    """The answer of versions that are parsed once."""
+    if name == "sort":
+        lines = unique(listed(texts[0]))
+        return places(lines, semver.VersionList(lines).sort())
+    if name not in ("filter", "best", "lowest"):
+        return None
+    range, flag = semver.Range(texts[0], options["grammar"]), {"pre_releases": options["pre_releases"]}
+    lines = unique(listed(texts[1]))
+    if name == "filter":
+        return each_answer(lines, semver.VersionList(lines, skip_invalid=True).filter(range, **flag))
+    return place(lines, getattr(semver.VersionList(lines), name)(range, **flag))
+
+
 def of_itself(name, texts, options):
     """The answer of one value about itself, where both texts are the same."""
     if len(texts) != 2 or texts[0] != texts[1]:
@@ -288,6 +303,7 @@ def answer(ask, *arguments):
 WAYS = (
     ("of texts", of_texts),
     ("of values", lambda *asked: of_values(*asked, lambda it: it)),
+    ("of lists", of_lists),
     ("of itself", of_itself),
     ("of copies", lambda *asked: of_values(*asked, copy.copy)),
     ("of pickles", lambda *asked: of_values(*asked, lambda it: pickle.loads(pickle.dumps(it)))),
@@ -300,7 +316,7 @@ def is_same(name, way, got, wanted):
         return got == (wanted[:2] if name == "package" else wanted)
     code, message, index = got
     # A value knows no place among arguments, and a range that is the only one has none.
-    is_placed = way == "of texts" and name != "increment" and not (name in ("best", "lowest") and code == "invalid range")
+    is_placed = way in ("of texts", "of lists") and name != "increment" and not (name in ("best", "lowest") and code == "invalid range")
     places = wanted[2:] if is_placed else []
     return wanted[:2] == [code, message] and places == ([] if index is None else [str(index)])
 

@@ -1,6 +1,7 @@
-"""The time of 100,000 versions from Python. DENO_SEMVER_LIBRARY is the shared library."""
+"""The time of 100,000 versions from Python, beside other packages where they are installed. DENO_SEMVER_LIBRARY is the shared library."""
 
 import functools
+import importlib
 import time
 
 import deno_semver as semver
@@ -18,7 +19,19 @@ def fastest(ask, passes):
     return min(times) * 1e3, answer
 
 
+def parsers():
+    """What parses a version: ours, and those of the packages that are there."""
+    yield "deno_semver.Version", semver.Version
+    for module, name in (("packaging.version", "Version"), ("semver", "Version.parse"), ("semver", "VersionInfo.parse"), ("semantic_version", "Version")):
+        try:
+            yield f"{module}.{name}", functools.reduce(getattr, name.split("."), importlib.import_module(module))
+        except (ImportError, AttributeError):
+            pass
+
+
 def main():
+    for name, parse in parsers():
+        print(f"{name}: {fastest(lambda: [parse(text) for text in TEXTS], 5)[0] / 100:.2f} µs a version")
     versions = [semver.Version(text) for text in TEXTS]
     for text in ("^1.2", ">=1.2 <2 || 3.x || ~5.6.7"):
         held = semver.Range(text)

@@ -1,10 +1,11 @@
+# SPDX-License-Identifier: MIT
 """Versions and version ranges of npm and JSR packages, as Deno parses, matches and compares them.
 
 >>> matches(">=1.2 <2 || 3", "1.3.0")
 True
 >>> best("^1.2", ["1.2.0", "1.10.0", "2.0.0"])
 '1.10.0'
->>> outside("^1", "^1.2")
+>>> counterexample("^1", "^1.2")
 '1.0.0'
 
 A range or a version is a text, a `Range` or a `Version`. An invalid text raises `InvalidRange` or `InvalidVersion`, a range that is
@@ -24,6 +25,7 @@ from ._functions import (
     Explanation,
     NameWithVersion,
     Package,
+    PackageKind,
     Reference,
     ReleaseType,
     VersionReference,
@@ -32,6 +34,7 @@ from ._functions import (
     canonical,
     common,
     compare,
+    counterexample,
     difference,
     explain,
     export_name,
@@ -43,7 +46,6 @@ from ._functions import (
     matches,
     may_be_tag,
     min_version,
-    outside,
     overlaps,
     parse_dependency,
     parse_name_with_version,
@@ -52,7 +54,8 @@ from ._functions import (
     parse_version_reference,
     sort,
 )
-from ._values import Range, Scan, Version
+from ._lists import VersionList
+from ._values import Grammar, Range, Scan, Version
 
 __version__ = "0.1.0"
 
@@ -62,12 +65,14 @@ __all__ = [
     "Bounds",
     "Dependency",
     "Explanation",
+    "Grammar",
     "IncrementError",
     "InvalidPackage",
     "InvalidRange",
     "InvalidVersion",
     "NameWithVersion",
     "Package",
+    "PackageKind",
     "Range",
     "Reference",
     "ReleaseType",
@@ -75,12 +80,14 @@ __all__ = [
     "SemverError",
     "TagError",
     "Version",
+    "VersionList",
     "VersionReference",
     "best",
     "bounds",
     "canonical",
     "common",
     "compare",
+    "counterexample",
     "difference",
     "explain",
     "export_name",
@@ -92,7 +99,6 @@ __all__ = [
     "matches",
     "may_be_tag",
     "min_version",
-    "outside",
     "overlaps",
     "parse_dependency",
     "parse_name_with_version",

@@ -27,11 +27,11 @@ def _path() -> str:
     return given or str(Path(__file__).with_name("libdeno_semver.so.0"))
 
 
-def _load() -> Dict[str, Callable[..., Any]]:
+def _load() -> Dict[str, Callable[..., int]]:
     # The calls of texts let other threads run. Those of handles are short, and to give up the interpreter's lock would take longer. They
     # need no lock: threads may ask one handle at once.
     of_texts, of_handles = ctypes.CDLL(_path()), ctypes.PyDLL(_path())
-    calls: Dict[str, Callable[..., Any]] = {}
+    calls: Dict[str, Callable[..., int]] = {}
     for name, (result, *arguments) in TABLE.items():
         call = getattr(of_handles if HANDLE in arguments else of_texts, f"semver_{name}")
         call.argtypes, call.restype = arguments, result
@@ -79,30 +79,35 @@ def pre_number(pre_releases: Any) -> int:
     return int(pre_releases)
 
 
+# The buffer that most texts fit in.
+_SHORT = 128
+_Short = ctypes.c_char * _SHORT
+
+
 def read(name: str, *arguments: Any, after: Tuple[Any, ...] = ()) -> Tuple[int, str]:
     """The code of a call that writes a text, and the text."""
-    call, needed, size = CALLS[name], c_size_t(), 128
+    call, needed, size, out = CALLS[name], c_size_t(), _SHORT, _Short()
     while True:
-        out = ctypes.create_string_buffer(size)
         code = call(*arguments, out, size, byref(needed), *after)
         if needed.value <= size:
             return code, out.raw[: needed.value].decode()
         size = needed.value
+        out = ctypes.create_string_buffer(size)
 
 
 def hold(name: str, *arguments: Any) -> Tuple[int, str, Handle]:
     """The code of a call that holds a value, and the handle; with it the text of the value, empty if that is long, or an error message.
 
     A call isn't repeated once the handle has a value."""
-    handle, needed, size = Handle(), c_size_t(), 128
+    handle, needed, size, out = Handle(), c_size_t(), _SHORT, _Short()
     while True:
-        out = ctypes.create_string_buffer(size)
         code = CALLS[name](*arguments, byref(handle), out, size, byref(needed))
         if needed.value <= size:
             return code, out.raw[: needed.value].decode(), handle
         if code == YES:
             return code, "", handle
         size = needed.value
+        out = ctypes.create_string_buffer(size)
 
 
 def _written(name: str, *arguments: Any) -> str:

@@ -24,7 +24,7 @@ from ._calls import (
     wrong_type,
 )
 from ._errors import IncrementError, InvalidPackage, InvalidRange, InvalidVersion, SemverError
-from ._values import Range, Version, range_text
+from ._values import Grammar, Range, Version, range_text
 
 AnyRange = Union[str, Range]
 AnyVersion = Union[str, Version]
@@ -42,14 +42,14 @@ def _lines(texts: Iterable[bytes]) -> bytes:
     return b"".join(text.replace(b"\n", b" ").replace(b"\r", b" ") + b"\n" for text in texts)
 
 
-def _versions(versions: Iterable[V]) -> Tuple[List[V], bytes]:
+def version_lines(versions: Iterable[V]) -> Tuple[List[V], bytes]:
     if isinstance(versions, (str, Version)):
-        raise TypeError(f"versions must be an iterable of versions, not {type(versions).__name__}")
+        wrong_type(versions, "versions", "an iterable of versions")
     listed = list(versions)
     return listed, _lines(_version_text(version, "versions", index) for index, version in enumerate(listed))
 
 
-def matches(range: AnyRange, version: AnyVersion, *, grammar: Optional[str] = None, pre_releases: bool = False) -> bool:
+def matches(range: AnyRange, version: AnyVersion, *, grammar: Optional[Grammar] = None, pre_releases: bool = False) -> bool:
     """Whether the version matches the range.
 
     >>> matches("^1.2", "1.3.0")
@@ -72,7 +72,7 @@ def filter(
     range: AnyRange,
     versions: Iterable[V],
     *,
-    grammar: Optional[str] = None,
+    grammar: Optional[Grammar] = None,
     pre_releases: bool = False,
     skip_invalid: bool = False,
 ) -> List[V]:
@@ -84,7 +84,7 @@ def filter(
     ['1.0.0']
     """
     source, text, number = range_text(range, "range", grammar)
-    listed, lines = _versions(versions)
+    listed, lines = version_lines(versions)
     answers, needed = (c_int8 * max(len(listed), 1))(), c_size_t()
     code = CALLS["filter"](
         number, source, len(source), lines, len(lines), pre_number(pre_releases), answers, len(answers), byref(needed)
@@ -100,9 +100,9 @@ def filter(
     return found
 
 
-def _best(call: str, range: AnyRange, versions: Iterable[V], grammar: Optional[str], pre_releases: bool) -> Optional[V]:
+def _best(call: str, range: AnyRange, versions: Iterable[V], grammar: Optional[Grammar], pre_releases: bool) -> Optional[V]:
     source, text, number = range_text(range, "range", grammar)
-    listed, lines = _versions(versions)
+    listed, lines = version_lines(versions)
     place = c_size_t()
     code = CALLS[call](number, source, len(source), lines, len(lines), pre_number(pre_releases), byref(place))
     if code >= 0:
@@ -112,7 +112,7 @@ def _best(call: str, range: AnyRange, versions: Iterable[V], grammar: Optional[s
     return fail_range(code, text, number)
 
 
-def best(range: AnyRange, versions: Iterable[V], *, grammar: Optional[str] = None, pre_releases: bool = False) -> Optional[V]:
+def best(range: AnyRange, versions: Iterable[V], *, grammar: Optional[Grammar] = None, pre_releases: bool = False) -> Optional[V]:
     """The highest of the versions that matches, the first of equal ones, or None.
 
     >>> best("^1.2", ["1.2.0", "1.10.0", "2.0.0"])
@@ -121,7 +121,7 @@ def best(range: AnyRange, versions: Iterable[V], *, grammar: Optional[str] = Non
     return _best("best", range, versions, grammar, pre_releases)
 
 
-def lowest(range: AnyRange, versions: Iterable[V], *, grammar: Optional[str] = None, pre_releases: bool = False) -> Optional[V]:
+def lowest(range: AnyRange, versions: Iterable[V], *, grammar: Optional[Grammar] = None, pre_releases: bool = False) -> Optional[V]:
     """The lowest of the versions that matches, the first of equal ones, or None.
 
     >>> lowest("^1.2", ["1.10.0", "1.2.0", "1.0.0"])
@@ -136,7 +136,7 @@ def sort(versions: Iterable[V], *, reverse: bool = False) -> List[V]:
     >>> sort(["1.10.0", "1.9.0", "1.9.0-rc.1"])
     ['1.9.0-rc.1', '1.9.0', '1.10.0']
     """
-    listed, lines = _versions(versions)
+    listed, lines = version_lines(versions)
     if reverse:
         listed.reverse()
         lines = _lines(_version_text(version, "versions") for version in listed)
@@ -195,7 +195,7 @@ def increment(version: V, release_type: ReleaseType, *, identifier: str = "", ba
         raise IncrementError(written, str(version))
     if code != YES:
         fail_version(code, str(version))
-    return Version(written) if isinstance(version, Version) else written
+    return type(version)(written)
 
 
 def difference(one: AnyVersion, other: AnyVersion) -> Optional[ReleaseType]:
@@ -211,7 +211,7 @@ def difference(one: AnyVersion, other: AnyVersion) -> Optional[ReleaseType]:
     return fail_version(code, str(other if place.value else one), place.value)
 
 
-def _two(one: AnyRange, other: AnyRange, grammar: Optional[str]) -> Tuple[Tuple[bytes, str], Tuple[bytes, str], int]:
+def _two(one: AnyRange, other: AnyRange, grammar: Optional[Grammar]) -> Tuple[Tuple[bytes, str], Tuple[bytes, str], int]:
     """Two ranges, and the number of their grammar."""
     if grammar is None:
         for range in (one, other):
@@ -227,7 +227,7 @@ def _fail_two(code: int, ranges: Tuple[Tuple[bytes, str], ...], number: int, pla
     fail_range(code, text, number, place if code == INVALID_RANGE else None)
 
 
-def overlaps(one: AnyRange, other: AnyRange, *, grammar: Optional[str] = None) -> bool:
+def overlaps(one: AnyRange, other: AnyRange, *, grammar: Optional[Grammar] = None) -> bool:
     """Whether the bounds of two ranges overlap; `common` knows whether a version lies there. Two tags overlap if they are the same.
 
     >>> overlaps(">1.0.0", "<1.0.1")
@@ -241,10 +241,10 @@ def overlaps(one: AnyRange, other: AnyRange, *, grammar: Optional[str] = None) -
     return _fail_two(code, (first, second), number, place.value)
 
 
-def outside(one: AnyRange, other: AnyRange, *, grammar: Optional[str] = None, pre_releases: bool = False) -> Optional[str]:
+def counterexample(one: AnyRange, other: AnyRange, *, grammar: Optional[Grammar] = None, pre_releases: bool = False) -> Optional[str]:
     """The lowest version that the first range matches and the other doesn't; None if the other contains the first.
 
-    >>> outside(">=1.3", "^1.2")
+    >>> counterexample(">=1.3", "^1.2")
     '2.0.0'
     """
     first, second, number = _two(one, other, grammar)
@@ -256,16 +256,16 @@ def outside(one: AnyRange, other: AnyRange, *, grammar: Optional[str] = None, pr
     return _fail_two(code, (first, second), number, place.value)
 
 
-def is_subset(one: AnyRange, other: AnyRange, *, grammar: Optional[str] = None, pre_releases: bool = False) -> bool:
-    """Whether the other range matches each version that the first one matches; `outside` gives a version that it doesn't.
+def is_subset(one: AnyRange, other: AnyRange, *, grammar: Optional[Grammar] = None, pre_releases: bool = False) -> bool:
+    """Whether the other range matches each version that the first one matches; `counterexample` gives one that it doesn't.
 
     >>> is_subset("^1.3", "^1.2")
     True
     """
-    return outside(one, other, grammar=grammar, pre_releases=pre_releases) is None
+    return counterexample(one, other, grammar=grammar, pre_releases=pre_releases) is None
 
 
-def is_equivalent(one: AnyRange, other: AnyRange, *, grammar: Optional[str] = None, pre_releases: bool = False) -> bool:
+def is_equivalent(one: AnyRange, other: AnyRange, *, grammar: Optional[Grammar] = None, pre_releases: bool = False) -> bool:
     """Whether two ranges match the same versions.
 
     >>> is_equivalent("^1", "1.x || 1.2")
@@ -280,7 +280,7 @@ def is_equivalent(one: AnyRange, other: AnyRange, *, grammar: Optional[str] = No
     return _fail_two(code, (first, second), number, place.value)
 
 
-def common(*ranges: AnyRange, grammar: Optional[str] = None, pre_releases: bool = False) -> Optional[str]:
+def common(*ranges: AnyRange, grammar: Optional[Grammar] = None, pre_releases: bool = False) -> Optional[str]:
     """The lowest version that all ranges match, or None.
 
     >>> common("^1.2", "~1.4 || ^2")
@@ -303,7 +303,7 @@ def common(*ranges: AnyRange, grammar: Optional[str] = None, pre_releases: bool 
     return fail_range(code, range, number, place.value if code == INVALID_RANGE else None)
 
 
-def min_version(range: AnyRange, *, grammar: Optional[str] = None, pre_releases: bool = False) -> Optional[str]:
+def min_version(range: AnyRange, *, grammar: Optional[Grammar] = None, pre_releases: bool = False) -> Optional[str]:
     """The lowest version that the range matches, or None.
 
     >>> min_version(">1.2.3")
@@ -316,7 +316,7 @@ def min_version(range: AnyRange, *, grammar: Optional[str] = None, pre_releases:
     return fail_range(code, text, number)
 
 
-def canonical(range: AnyRange, *, grammar: Optional[str] = None) -> str:
+def canonical(range: AnyRange, *, grammar: Optional[Grammar] = None) -> str:
     """The canonical form of the range, for lockfiles and keys; of a tag, the tag.
 
     >>> canonical(">=1.2 <2 || 3.x")
@@ -345,7 +345,7 @@ def _bound(parts: Optional[Dict[str, Any]]) -> Optional[Bound]:
     return None if parts is None else Bound(parts["version"], parts["inclusive"])
 
 
-def bounds(range: AnyRange, *, grammar: Optional[str] = None) -> List[Bounds]:
+def bounds(range: AnyRange, *, grammar: Optional[Grammar] = None) -> List[Bounds]:
     """The bounds of each alternative of the range, but for those that no version can match.
 
     >>> bounds("^1.2 || >=3")[0]
@@ -390,7 +390,7 @@ def _alternative(text: str, parts: Dict[str, Any]) -> Alternative:
     return Alternative(parts["text"], _bound(parts["start"]), _bound(parts["end"]), numbers, parts["lowest"], None)
 
 
-def explain(range: AnyRange, *, grammar: Optional[str] = None, pre_releases: bool = False) -> Explanation:
+def explain(range: AnyRange, *, grammar: Optional[Grammar] = None, pre_releases: bool = False) -> Explanation:
     """What the range means, alternative by alternative. npm's grammar leaves invalid alternatives out.
 
     >>> valid, invalid = explain(">=1.2.3-rc || 1..2").alternatives
@@ -420,6 +420,9 @@ def may_be_tag(text: str) -> bool:
     return CALLS["may_be_tag"](source, len(source)) == YES
 
 
+PackageKind = Literal["npm", "jsr"]
+
+
 class Package(NamedTuple):
     """A package with a range."""
 
@@ -432,7 +435,7 @@ class Package(NamedTuple):
 class Reference(NamedTuple):
     """A reference to a package of npm or JSR."""
 
-    kind: str
+    kind: PackageKind
     package: Package
     path: Optional[str]
     export: Optional[str]
@@ -442,7 +445,7 @@ def _package(parts: Dict[str, Any]) -> Package:
     return Package(parts["scope"], parts["name"], parts["requirement"], parts["normal"])
 
 
-def parse_package(text: str, *, grammar: str = "npm") -> Package:
+def parse_package(text: str, *, grammar: Grammar = "npm") -> Package:
     """The parts of a package with a range.
 
     >>> parse_package("@scope/name@^1.2")
@@ -473,7 +476,7 @@ class NameWithVersion(NamedTuple):
 class VersionReference(NamedTuple):
     """A reference to one version of a package."""
 
-    kind: str
+    kind: PackageKind
     package: NameWithVersion
     path: Optional[str]
     export: Optional[str]
@@ -482,7 +485,7 @@ class VersionReference(NamedTuple):
 class Dependency(NamedTuple):
     """A dependency on a package of npm or JSR."""
 
-    kind: str
+    kind: PackageKind
     package: Package
     canonical: str
 
@@ -520,7 +523,7 @@ def parse_version_reference(text: str) -> VersionReference:
     return VersionReference(parts["kind"], _name_with_version(parts["package"]), parts["path"], parts["export"])
 
 
-def parse_dependency(text: str, *, grammar: str = "npm") -> Dependency:
+def parse_dependency(text: str, *, grammar: Grammar = "npm") -> Dependency:
     """The parts of a dependency, such as `jsr:@scope/name@^1.2` or `npm:name@1`.
 
     >>> parse_dependency("jsr:@scope/name@1.x").canonical

@@ -5,7 +5,8 @@ from __future__ import annotations
 import re
 from ctypes import byref, c_size_t, create_string_buffer
 from functools import total_ordering
-from typing import Any, Callable, List, NamedTuple, Optional, Tuple, Union
+from threading import Lock
+from typing import Any, Callable, List, Literal, NamedTuple, Optional, Tuple, Union
 
 from ._calls import (
     CALLS,
@@ -24,15 +25,19 @@ from ._calls import (
 from ._errors import InvalidRange, InvalidVersion, TagError
 from ._table import Handle
 
-_PARTS = re.compile(r"(\d+)\.(\d+)\.(\d+)(?:-([^+]*))?(?:\+(.*))?")
+_HOLDING = Lock()  # a version, which threads may share, is held once
+
+Grammar = Literal["npm", "normalized", "strict"]
+
+_PARTS = re.compile(r"[\d.]+(?:-([^+]*))?(?:\+(.*))?")
 
 
-class _Held:
+class Held:
     """A handle that has a value, which is freed with it."""
 
     __slots__ = ("_handle", "_free")
 
-    def __init__(self, handle: Handle, free: Callable[[Any], None]) -> None:
+    def __init__(self, handle: Handle, free: Callable[[Any], object]) -> None:
         self._handle, self._free = handle, free
 
     def __del__(self) -> None:
@@ -62,22 +67,48 @@ class Version:
     Versions that differ only in the build are different, and ordered by it. `precedes` ignores builds, as SemVer does.
     """
 
-    __slots__ = ("_held", "_text", "_numbers", "__weakref__")
+    __slots__ = ("_text", "_numbers", "_held", "__weakref__")
 
-    _held: _Held
     _text: str
     _numbers: Tuple[int, ...]
+    _held: Optional[Held]
 
     def __new__(cls, text: str) -> Version:
         source = encoded(text, "text", InvalidVersion)
-        code, written, handle = hold("version_read", source, len(source))
+        code, written = read("version", source, len(source))
         if code != YES:
             fail_version(code, text)
         self = super().__new__(cls)
-        self._held = _Held(handle, CALLS["version_free"])
-        self._text = written or read("version", source, len(source))[1]
+        self._text = written
         self._numbers = ()
+        self._held = None
         return self
+
+    def _lent(self) -> Any:
+        """The version as a handle, for one call. It is held from the first time on."""
+        if self._held is None:
+            self._hold()
+        assert self._held is not None
+        return self._held.lent()
+
+    def _hold(self) -> None:
+        source = self._text.encode()
+        with _HOLDING:
+            if self._held is None:
+                code, _, handle = hold("version_read", source, len(source))
+                if code != YES:
+                    raise MemoryError
+                self._held = Held(handle, CALLS["version_free"])
+
+    def _is_release(self) -> bool:
+        """Whether the version has neither a pre-release nor a build."""
+        return "-" not in self._text and "+" not in self._text
+
+    def _keep_numbers(self) -> Tuple[int, ...]:
+        """The three numbers, which are kept from the first time on."""
+        if not self._numbers:
+            self._numbers = tuple(map(int, self._text.partition("+")[0].partition("-")[0].split(".")))
+        return self._numbers
 
     def _part(self, number: int) -> str:
         parts = _PARTS.fullmatch(self._text)
@@ -86,26 +117,26 @@ class Version:
 
     @property
     def major(self) -> int:
-        return int(self._part(1))
+        return self._keep_numbers()[0]
 
     @property
     def minor(self) -> int:
-        return int(self._part(2))
+        return self._keep_numbers()[1]
 
     @property
     def patch(self) -> int:
-        return int(self._part(3))
+        return self._keep_numbers()[2]
 
     @property
     def pre(self) -> Tuple[str, ...]:
         """The identifiers of the pre-release."""
-        pre = self._part(4)
+        pre = self._part(1)
         return tuple(pre.split(".")) if pre else ()
 
     @property
     def build(self) -> Tuple[str, ...]:
         """The identifiers of the build."""
-        build = self._part(5)
+        build = self._part(2)
         return tuple(build.split(".")) if build else ()
 
     @property
@@ -116,7 +147,7 @@ class Version:
         >>> Version("1.10.0-beta.2").sort_key
         'A1B10A0-$beta!#A22!!'
         """
-        code, key = read("version_key", self._held.lent())
+        code, key = read("version_key", self._lent())
         if code != YES:
             raise MemoryError
         return key
@@ -135,18 +166,13 @@ class Version:
     def __hash__(self) -> int:
         return hash(self._text)
 
-    def _keep_numbers(self) -> Tuple[int, ...]:
-        """Keeps the three numbers for the next comparison, and returns them."""
-        self._numbers = tuple(map(int, self._text.partition("+")[0].partition("-")[0].split(".")))
-        return self._numbers
-
     def __lt__(self, other: object) -> bool:
         if not isinstance(other, Version):
             return NotImplemented
         one, two = self._numbers or self._keep_numbers(), other._numbers or other._keep_numbers()
         if one != two:
             return one < two
-        return self._text != other._text and CALLS["version_order"](self._held.lent(), other._held.lent()) == 0
+        return self._text != other._text and CALLS["version_order"](self._lent(), other._lent()) == 0
 
     def __reduce__(self) -> Tuple[Any, ...]:
         return Version, (self._text,)
@@ -161,7 +187,7 @@ class Version:
         """
         if not isinstance(other, Version):
             wrong_type(other, "other", "Version")
-        return CALLS["version_compare"](self._held.lent(), other._held.lent()) == 0
+        return CALLS["version_compare"](self._lent(), other._lent()) == 0
 
 
 class Scan(NamedTuple):
@@ -172,7 +198,7 @@ class Scan(NamedTuple):
     high: str
 
 
-def _scan(scans: _Held, index: int) -> Scan:
+def _scan(scans: Held, index: int) -> Scan:
     size = 128
     while True:
         low, low_len = create_string_buffer(size), c_size_t()
@@ -200,19 +226,19 @@ class Range:
 
     __slots__ = ("_held", "_text", "_grammar", "_canonical", "_is_tag", "__weakref__")
 
-    _held: _Held
+    _held: Held
     _text: str
-    _grammar: str
+    _grammar: Grammar
     _canonical: str
     _is_tag: bool
 
-    def __new__(cls, text: str, grammar: str = "npm") -> Range:
+    def __new__(cls, text: str, grammar: Grammar = "npm") -> Range:
         source, number = encoded(text, "text", InvalidRange), grammar_number(grammar)
         code, written, handle = hold("req_read", number, source, len(source))
         if code != YES:
             fail_range(code, text, number)
         self = super().__new__(cls)
-        self._held = _Held(handle, CALLS["req_free"])
+        self._held = Held(handle, CALLS["req_free"])
         self._text, self._grammar = text, grammar
         self._canonical = written or read("normal", number, source, len(source))[1]
         self._is_tag = CALLS["req_is_tag"](self._held.lent()) == YES
@@ -224,7 +250,7 @@ class Range:
         return self._text
 
     @property
-    def grammar(self) -> str:
+    def grammar(self) -> Grammar:
         return self._grammar
 
     @property
@@ -265,7 +291,9 @@ class Range:
         """
         flag = pre_number(pre_releases)
         if isinstance(version, Version):
-            return self._answer(CALLS["req_matches"](self._held.lent(), version._held.lent(), flag), str(version))
+            if version._is_release():
+                return self._answer(CALLS["req_matches_release"](self._held.lent(), *version._keep_numbers()), str(version))
+            return self._answer(CALLS["req_matches"](self._held.lent(), version._lent(), flag), str(version))
         source = encoded(version, "version", InvalidVersion)
         return self._answer(CALLS["req_fits"](self._held.lent(), source, len(source), flag), version)
 
@@ -303,11 +331,11 @@ class Range:
             raise TagError("The range is a tag.", self.text)
         if code != YES:
             raise MemoryError
-        scans = _Held(handle, CALLS["scans_free"])
+        scans = Held(handle, CALLS["scans_free"])
         return [_scan(scans, index) for index in range(count.value)]
 
 
-def range_text(value: Any, name: str, grammar: Optional[str]) -> Tuple[bytes, str, int]:
+def range_text(value: Any, name: str, grammar: Optional[Grammar]) -> Tuple[bytes, str, int]:
     """The bytes of a range, its text, and the number of its grammar, which is that of a `Range`, or npm's by default."""
     if isinstance(value, Range):
         if grammar is not None and grammar != value.grammar:

@@ -17,13 +17,13 @@ from pathlib import Path
 from unittest import mock
 
 import deno_semver as semver
-from deno_semver import Range, Version, _calls, _errors, _functions, _values
+from deno_semver import Range, Version, VersionList, _calls, _errors, _functions, _lists, _values
 
 heap = ctypes.CDLL(os.environ["DENO_SEMVER_LIBRARY"])
 
 
 def load_tests(loader, tests, ignore):
-    for module in (semver, _errors, _functions, _values):
+    for module in (semver, _errors, _functions, _lists, _values):
         tests.addTests(doctest.DocTestSuite(module, optionflags=doctest.IGNORE_EXCEPTION_DETAIL))
     return tests
 
@@ -128,6 +128,49 @@ class Values(unittest.TestCase):
     def test_many(self):
         versions = [f"{n % 7}.{n % 11}.{n}" for n in range(100_000)]
         self.assertEqual(len(semver.filter("^1.2 || 3", versions)), sum(n % 7 == 1 and n % 11 >= 2 or n % 7 == 3 for n in range(100_000)))
+
+
+class Lists(unittest.TestCase):
+    def test_versions(self):
+        for make in (str, Version):
+            versions = [make(text) for text in ("1.2.0", "2.0.0-a", "1.10.0", "1.2.0+b")]
+            listed = VersionList(iter(versions))
+            self.assertEqual((len(listed), list(listed), repr(listed)), (4, versions, f"VersionList({versions!r})"))
+            self.assertEqual(listed.filter("^1.2"), [versions[0], versions[2], versions[3]])
+            self.assertEqual(listed.filter(Range("1 - 2", "npm"), pre_releases=True), versions)
+            self.assertIs(listed.best(Range("*")), versions[2])
+            self.assertIs(listed.best("*", pre_releases=True), versions[1])
+            self.assertIs(listed.lowest("*"), versions[0])
+            self.assertIs(listed.lowest(">=2", pre_releases=True), None)
+            self.assertEqual(listed.sort(), [versions[0], versions[3], versions[2], versions[1]])
+
+    def test_none(self):
+        empty = VersionList([])
+        self.assertEqual((len(empty), empty.filter("*"), empty.best("*"), empty.lowest("*"), empty.sort()), (0, [], None, None, []))
+
+    def test_lines(self):
+        self.assertEqual(VersionList(["\n1.0.0\r\n", "1.1.0"]).filter("*"), ["\n1.0.0\r\n", "1.1.0"])
+
+    def test_invalid(self):
+        with self.assertRaises(semver.InvalidVersion) as caught:
+            VersionList(["1.0.0", "1.x", "x"])
+        self.assertEqual((caught.exception.text, caught.exception.index, caught.exception.start), ("1.x", 1, 2))
+        listed = VersionList(["1.0.0", "1.x", "0.1.0"], skip_invalid=True)
+        self.assertEqual((len(listed), listed.filter("*"), listed.sort()), (3, ["1.0.0", "0.1.0"], ["0.1.0", "1.0.0"]))
+        for ask in (listed.filter, listed.best, listed.lowest):
+            self.assertRaises(semver.TagError, ask, "latest")
+            self.assertRaises(semver.InvalidRange, ask, "^1..2")
+            for wrong in (3, b"1", None):
+                self.assertRaises(TypeError, ask, wrong)
+                self.assertRaises(TypeError, ask, "1", pre_releases=wrong)
+        for wrong in (3, "1.0.0", None, [3], Version("1.0.0")):
+            self.assertRaises(TypeError, VersionList, wrong)
+
+    def test_copies(self):
+        listed = VersionList(["1.2.0", "x"], skip_invalid=True)
+        for make in (copy.copy, copy.deepcopy, lambda it: pickle.loads(pickle.dumps(it))):
+            again = make(listed)
+            self.assertEqual((list(again), again.filter("^1")), (["1.2.0", "x"], ["1.2.0"]))
 
 
 class Errors(unittest.TestCase):
@@ -311,6 +354,7 @@ class Lifetimes(unittest.TestCase):
 
     def test_deletion_by_hand(self):
         version, other = Version("1.0.0"), Version("2.0.0")
+        self.assertTrue(version.precedes(other))
         version._held.__del__()
         self.assertRaises(ValueError, version.precedes, other)
         self.assertRaises(ValueError, other.precedes, version)
@@ -329,6 +373,7 @@ class Lifetimes(unittest.TestCase):
     def test_out_of_memory(self):
         version, range_ = Version("1.3.0"), Range("^1")
         long = "1.0.0-" + "a." * 50 + "b"
+        listed = VersionList(["1.0.0", "2.0.0"])
         for ask in (
             lambda: semver.matches("1", long),
             lambda: semver.sort([long]),
@@ -340,6 +385,8 @@ class Lifetimes(unittest.TestCase):
             lambda: semver.common("1 || 2", "2 || 3"),
             lambda: semver.parse_package("a@1 || 2", grammar="npm"),
             lambda: semver.explain("1 || 2"),
+            lambda: VersionList([long]),
+            lambda: listed.sort(),
         ):
             heap.heap_limit(ctypes.c_long(0))
             self.assertRaises(MemoryError, ask)

@@ -42,10 +42,10 @@ fn package(specifier: &str) -> Result<Option<PackageReq>, PackageReqReferencePar
 
 /// Whether some version matches both requirements.
 fn agree(one: &PackageReq, other: &PackageReq) -> bool {
-    let ranges = format!("{}\n{}", one.version_req, other.version_req);
+    let ranges = [&one.version_req, &other.version_req];
     one.version_req.tag().is_some()
         || other.version_req.tag().is_some()
-        || common_version(Grammar::Strict, &ranges, PreRelease::Restricted).is_ok_and(|lowest| lowest != Lowest::Nothing)
+        || common_version(Grammar::Strict, ranges, PreRelease::Restricted).is_ok_and(|lowest| lowest != Lowest::Nothing)
 }
 
 fn main() -> Result<(), Box<dyn Error>> {

@@ -3,6 +3,7 @@
 use crate::externs::{semver_is_tag, semver_version_numbers};
 use std::alloc::{handle_alloc_error, Layout};
 use std::cmp::Ordering;
+use std::fmt::{Display, Write};
 
 pub(crate) const NO: i32 = 0;
 pub(crate) const YES: i32 = 1;
@@ -113,4 +114,20 @@ pub(crate) fn ordering(code: i32) -> Ordering {
         2 => Ordering::Greater,
         _ => failed(code),
     }
+}
+
+/// Strings as lines, and how many there are. A line break within one is whitespace, as a space is.
+pub(crate) fn lines(strings: impl IntoIterator<Item = impl Display>) -> (String, usize) {
+    let (mut joined, mut count) = (String::new(), 0);
+    for string in strings {
+        let start = joined.len();
+        let _ = write!(joined, "{string}"); // to a String, which doesn't fail
+        if joined[start..].contains(['\n', '\r']) {
+            let line = joined[start..].replace(['\n', '\r'], " ");
+            joined.replace_range(start.., &line);
+        }
+        joined.push('\n');
+        count += 1;
+    }
+    (joined, count)
 }

@@ -1,3 +1,5 @@
+// SPDX-License-Identifier: MIT
+
 //! Versions and version requirements of npm and JSR packages, at the paths of the crate `deno_semver`, over verified code.
 //!
 //! ```

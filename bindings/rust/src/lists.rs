@@ -1,10 +1,11 @@
-//! Questions about lists of versions, one per line.
+//! Questions about lists of versions.
 
-use crate::calls::{failed, message, INVALID_RANGE, INVALID_VERSION, NO, TAG, YES};
+use crate::calls::{failed, lines, message, INVALID_RANGE, INVALID_VERSION, NO, TAG, YES};
 use crate::externs::*;
 use crate::raw::Versions;
 use crate::version_req::VersionReq;
 use crate::{Grammar, InvalidRange, PreRelease};
+use std::fmt::Display;
 use std::sync::Arc;
 
 /// Whether a version matches a range.
@@ -34,11 +35,11 @@ fn fit(code: i8) -> Fit {
 pub enum Best {
     /// None matches.
     Nothing,
-    /// The version on this line, counted from 0.
+    /// The version at this index.
     At(usize),
     /// The range is a tag.
     Tag,
-    /// The version on this line is invalid.
+    /// The version at this index is invalid.
     Invalid(usize),
 }
 
@@ -47,12 +48,12 @@ fn invalid(grammar: Grammar, range: &str) -> InvalidRange {
     InvalidRange { place: 0, message: message(grammar, range) }
 }
 
-// The answers of a call for so many lines; none if the range is invalid.
-fn fits(lines: usize, call: impl FnOnce(&mut [i8], &mut usize) -> i32) -> Option<Vec<Fit>> {
-    let mut answers = vec![0; lines];
+// The answers of a call for so many versions; none if the range is invalid.
+fn fits(count: usize, call: impl FnOnce(&mut [i8], &mut usize) -> i32) -> Option<Vec<Fit>> {
+    let mut answers = vec![0; count];
     match call(&mut answers, &mut 0) {
         YES => Some(answers.into_iter().map(fit).collect()),
-        TAG => Some(vec![Fit::Tag; lines]),
+        TAG => Some(vec![Fit::Tag; count]),
         INVALID_RANGE => None,
         code => failed(code),
     }
@@ -72,28 +73,53 @@ fn chosen(call: impl FnOnce(&mut usize) -> i32) -> Option<Best> {
 }
 
 /// Whether each version matches the range.
-pub fn filter(grammar: Grammar, range: &str, versions: &str, pre_release: PreRelease) -> Result<Vec<Fit>, InvalidRange> {
-    let call = |out: &mut _, needed: &mut _| semver_filter(grammar as u32, range, versions, pre_release as u32, out, needed);
-    fits(versions.lines().count(), call).ok_or_else(|| invalid(grammar, range))
+///
+/// ```
+/// # use deno_semver_proved::{lists::{filter, Fit}, Grammar, PreRelease};
+/// let fits = filter(Grammar::Npm, "^1.2", ["1.3.0", "2.0.0"], PreRelease::Restricted).unwrap();
+/// assert_eq!(fits, [Fit::Yes, Fit::No]);
+/// ```
+pub fn filter(
+    grammar: Grammar,
+    range: &str,
+    versions: impl IntoIterator<Item = impl Display>,
+    pre_release: PreRelease,
+) -> Result<Vec<Fit>, InvalidRange> {
+    let (versions, count) = lines(versions);
+    let call = |out: &mut _, needed: &mut _| semver_filter(grammar as u32, range, &versions, pre_release as u32, out, needed);
+    fits(count, call).ok_or_else(|| invalid(grammar, range))
 }
 
 /// Which version is the highest that matches the range; the first of equal ones.
-pub fn best(grammar: Grammar, range: &str, versions: &str, pre_release: PreRelease) -> Result<Best, InvalidRange> {
-    let call = |place: &mut _| semver_best(grammar as u32, range, versions, pre_release as u32, place);
+pub fn best(
+    grammar: Grammar,
+    range: &str,
+    versions: impl IntoIterator<Item = impl Display>,
+    pre_release: PreRelease,
+) -> Result<Best, InvalidRange> {
+    let (versions, _) = lines(versions);
+    let call = |place: &mut _| semver_best(grammar as u32, range, &versions, pre_release as u32, place);
     chosen(call).ok_or_else(|| invalid(grammar, range))
 }
 
 /// Which version is the lowest that matches the range; the first of equal ones.
-pub fn lowest(grammar: Grammar, range: &str, versions: &str, pre_release: PreRelease) -> Result<Best, InvalidRange> {
-    let call = |place: &mut _| semver_lowest(grammar as u32, range, versions, pre_release as u32, place);
+pub fn lowest(
+    grammar: Grammar,
+    range: &str,
+    versions: impl IntoIterator<Item = impl Display>,
+    pre_release: PreRelease,
+) -> Result<Best, InvalidRange> {
+    let (versions, _) = lines(versions);
+    let call = |place: &mut _| semver_lowest(grammar as u32, range, &versions, pre_release as u32, place);
     chosen(call).ok_or_else(|| invalid(grammar, range))
 }
 
-/// The lines of the versions by precedence; versions that differ in the build alone keep their order. If a version is invalid, its line
+/// The indexes of the versions by precedence; versions that differ in the build alone keep their order. If a version is invalid, its index
 /// is the error.
-pub fn sort(versions: &str) -> Result<Vec<usize>, usize> {
-    let (mut places, mut place) = (vec![0; versions.lines().count()], 0);
-    match semver_sort(versions, &mut places, &mut 0, &mut place) {
+pub fn sort(versions: impl IntoIterator<Item = impl Display>) -> Result<Vec<usize>, usize> {
+    let (versions, count) = lines(versions);
+    let (mut places, mut place) = (vec![0; count], 0);
+    match semver_sort(&versions, &mut places, &mut 0, &mut place) {
         YES => Ok(places),
         INVALID_VERSION => Err(place),
         code => failed(code),
@@ -104,21 +130,21 @@ pub fn sort(versions: &str) -> Result<Vec<usize>, usize> {
 #[derive(Clone)]
 pub struct VersionList {
     held: Arc<Versions>,
-    lines: usize,
+    count: usize,
 }
 
 impl VersionList {
-    /// Parses versions, one per line. A line that isn't a version keeps its place and matches nothing.
-    pub fn parse(versions: &str) -> VersionList {
-        let mut lines = 0;
-        let (held, _) = Versions::read(|handle, _, _| semver_list_read(versions, handle, &mut lines));
-        VersionList { held: Arc::new(held), lines }
+    /// Parses versions. What isn't a version keeps its place and matches nothing.
+    pub fn parse(versions: impl IntoIterator<Item = impl Display>) -> VersionList {
+        let (versions, mut count) = lines(versions);
+        let (held, _) = Versions::read(|handle, _, _| semver_list_read(&versions, handle, &mut count));
+        VersionList { held: Arc::new(held), count }
     }
 
     /// Whether each version matches the requirement.
     pub fn filter(&self, req: &VersionReq, pre_release: PreRelease) -> Vec<Fit> {
         let call = |out: &mut _, needed: &mut _| semver_list_filter(&self.held, req.held(), pre_release as u32, out, needed);
-        fits(self.lines, call).expect("a requirement is valid")
+        fits(self.count, call).expect("a requirement is valid")
     }
 
     /// Which version is the highest that matches; the first of equal ones.
@@ -131,10 +157,10 @@ impl VersionList {
         chosen(|place| semver_list_lowest(&self.held, req.held(), pre_release as u32, place)).expect("a requirement is valid")
     }
 
-    /// The lines of the versions by precedence; versions that differ in the build alone keep their order. Lines that aren't versions are
-    /// left out.
+    /// The indexes of the versions by precedence; versions that differ in the build alone keep their order. What isn't a version is left
+    /// out.
     pub fn sort(&self) -> Vec<usize> {
-        let (mut places, mut needed) = (vec![0; self.lines], 0);
+        let (mut places, mut needed) = (vec![0; self.count], 0);
         match semver_list_sort(&self.held, &mut places, &mut needed) {
             YES => places.truncate(needed),
             code => failed(code),
@@ -142,13 +168,13 @@ impl VersionList {
         places
     }
 
-    /// How many lines there are.
+    /// How many versions there are, with what isn't one.
     pub fn len(&self) -> usize {
-        self.lines
+        self.count
     }
 
-    /// Whether there is no line.
+    /// Whether there is none.
     pub fn is_empty(&self) -> bool {
-        self.lines == 0
+        self.count == 0
     }
 }

@@ -1,8 +1,9 @@
 //! What ranges have in common, exactly: the lowest version with a property, and whether one range contains another.
 
-use crate::calls::{answer, failed, message, text_or_message, with_text, INVALID_RANGE, NO, TAG, YES};
+use crate::calls::{answer, failed, lines, message, text_or_message, with_text, INVALID_RANGE, NO, TAG, YES};
 use crate::externs::*;
 use crate::{Grammar, InvalidRange, PreRelease};
+use std::fmt::Display;
 
 /// The lowest version with some property.
 #[derive(Clone, Debug, PartialEq, Eq)]
@@ -33,13 +34,24 @@ pub fn min_version(grammar: Grammar, range: &str, pre_release: PreRelease) -> Re
     lowest(YES, |out, needed, _| semver_min_version(grammar as u32, range, pre_release as u32, out, needed))
 }
 
-/// The lowest version that all ranges match, one per line.
-pub fn common_version(grammar: Grammar, ranges: &str, pre_release: PreRelease) -> Result<Lowest, InvalidRange> {
-    lowest(YES, |out, needed, place| semver_common_all(grammar as u32, ranges, pre_release as u32, out, needed, place))
+/// The lowest version that all ranges match; none if there are none.
+///
+/// ```
+/// # use deno_semver_proved::{lowest::{common_version, Lowest}, Grammar, PreRelease};
+/// let common = common_version(Grammar::Npm, ["^1.2", "~1.4 || ^2"], PreRelease::Restricted).unwrap();
+/// assert_eq!(common, Lowest::Version("1.4.0".into()));
+/// ```
+pub fn common_version(
+    grammar: Grammar,
+    ranges: impl IntoIterator<Item = impl Display>,
+    pre_release: PreRelease,
+) -> Result<Lowest, InvalidRange> {
+    let (ranges, _) = lines(ranges);
+    lowest(YES, |out, needed, place| semver_common_all(grammar as u32, &ranges, pre_release as u32, out, needed, place))
 }
 
 /// The lowest version that the first range matches and the other doesn't; none if the other contains the first.
-pub fn outside(grammar: Grammar, one: &str, other: &str, pre_release: PreRelease) -> Result<Lowest, InvalidRange> {
+pub fn counterexample(grammar: Grammar, one: &str, other: &str, pre_release: PreRelease) -> Result<Lowest, InvalidRange> {
     lowest(NO, |out, needed, place| semver_within(grammar as u32, one, other, pre_release as u32, out, needed, place))
 }
 

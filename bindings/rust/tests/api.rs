@@ -104,7 +104,7 @@ fn errors() {
     assert_eq!(error, JsrDepPackageReqParseError::NotExpectedScheme("other".into()));
     let error = PackageNv::from_str("name@1").unwrap_err();
     assert_eq!(error.message, "Missing minor version. Versions must be in the form MAJOR.MINOR.PATCH (ex. 1.0.0).");
-    assert_eq!(lists::filter(Grammar::Npm, "!", "", PreRelease::Restricted).unwrap_err().place, 0);
+    assert_eq!(lists::filter(Grammar::Npm, "!", [""; 0], PreRelease::Restricted).unwrap_err().place, 0);
 }
 
 /// The place of an error, but for what is expected there.
@@ -264,8 +264,8 @@ fn versions_are_those_of_the_library() {
         let (one, other) = (version(&texts[0]), version(&texts[1]));
         let json = format!(r#"{{"name":"a","scope":null,"version":"{one}"}}"#);
         assert_eq!(json::name_with_version(&format!("a@{}", texts[0])), Ok(json));
-        let is_sorted = |lines: String| lists::sort(&lines) == Ok(vec![0, 1]);
-        let order = match (is_sorted(texts.join("\n")), is_sorted(format!("{}\n{}", texts[1], texts[0]))) {
+        let is_sorted = |one: &String, other: &String| lists::sort([one, other]) == Ok(vec![0, 1]);
+        let order = match (is_sorted(&texts[0], &texts[1]), is_sorted(&texts[1], &texts[0])) {
             (true, true) => Ordering::Equal,
             (true, false) => Ordering::Less,
             (false, _) => Ordering::Greater,
@@ -277,7 +277,7 @@ fn versions_are_those_of_the_library() {
         let range = ranges[seed as usize % ranges.len()];
         for pre_release in [PreRelease::Restricted, PreRelease::Admitted] {
             let fit = if npm(range).matches_with(&one, pre_release) { Fit::Yes } else { Fit::No };
-            assert_eq!(lists::filter(Grammar::Npm, range, &texts[0], pre_release), Ok(vec![fit]), "{range}, {texts:?}");
+            assert_eq!(lists::filter(Grammar::Npm, range, [&texts[0]], pre_release), Ok(vec![fit]), "{range}, {texts:?}");
         }
     }
 }
@@ -349,9 +349,9 @@ fn ranges_are_those_of_the_library() {
         let text = version_text(seed);
         let fits = |is_match| Ok(vec![if is_match { Fit::Yes } else { Fit::No }]);
         let answer = fits(set.satisfies(&version(&text)));
-        assert_eq!(lists::filter(Grammar::Normalized, &texts, &text, PreRelease::Restricted), answer, "{texts}, {text}");
+        assert_eq!(lists::filter(Grammar::Normalized, &texts, [&text], PreRelease::Restricted), answer, "{texts}, {text}");
         let answer = fits(ranges[0].intersects_version(&version(&text)));
-        assert_eq!(lists::filter(Grammar::Normalized, &one, &text, PreRelease::Admitted), answer, "{one}, {text}");
+        assert_eq!(lists::filter(Grammar::Normalized, &one, [&text], PreRelease::Admitted), answer, "{one}, {text}");
     }
 }
 
@@ -440,17 +440,17 @@ fn ranges() {
 
 #[test]
 fn beyond_the_original() {
-    let common = lowest::common_version(Grammar::Npm, ">1.0.0\n<1.0.1", PreRelease::Restricted);
+    let common = lowest::common_version(Grammar::Npm, [">1.0.0", "<1.0.1"], PreRelease::Restricted);
     assert_eq!(common, Ok(Lowest::Nothing));
-    let outside = lowest::outside(Grammar::Npm, ">=1.3", "^1.2", PreRelease::Restricted);
+    let outside = lowest::counterexample(Grammar::Npm, ">=1.3", "^1.2", PreRelease::Restricted);
     assert_eq!(outside, Ok(Lowest::Version("2.0.0".into())));
     assert_eq!(lowest::equivalent(Grammar::Npm, "1.x", "^1.0.0", PreRelease::Restricted), Ok(Some(true)));
-    let list = VersionList::parse("1.2.0\n2.0.0\r\nfoo\n1.9.9\n");
+    let list = VersionList::parse(["1.2.0", "\n2.0.0\r\n", "foo", "1.9.9"]);
     assert_eq!(list.filter(&npm("^1.2"), PreRelease::Restricted), [Fit::Yes, Fit::No, Fit::Invalid, Fit::Yes]);
     assert_eq!(list.best(&npm("^1.2"), PreRelease::Restricted), Best::At(3));
     assert_eq!(list.lowest(&npm("^1.3"), PreRelease::Restricted), Best::At(3));
     assert_eq!(list.sort(), [0, 3, 1]);
-    assert_eq!(lists::sort("2.0.0\n1.0.0"), Ok(vec![1, 0]));
+    assert_eq!(lists::sort(["2.0.0", "1.0.0"]), Ok(vec![1, 0]));
 }
 
 #[test]
@@ -492,7 +492,7 @@ struct Values {
 impl Values {
     fn new() -> Values {
         let versions = ["1.3.0", "2.0.0", "3.0.0-a.1", "3.0.0+b", "3.0.0-a.1+b.2", "3.0.0", "0.0.0-0"];
-        let list = VersionList::parse(&versions.join("\n"));
+        let list = VersionList::parse(versions);
         let ranges = ["^1.2 || >=3", "1 - 2.0.0-x", ">=3.0.0-a <3.0.0 || ~1.3", "*", "^1.2.0 || >=3.0.0"];
         Values { reqs: ranges.map(npm).into(), versions: versions.map(version).into(), list }
     }

@@ -7,8 +7,8 @@ use deno_semver_proved::lowest::{self, Lowest};
 use deno_semver_proved::npm::is_valid_npm_tag;
 use deno_semver_proved::package::{json, PackageReq};
 use deno_semver_proved::{
-    Base, Grammar, InvalidRange, Place, PreRelease, RangeBound, RangeSetOrTag, ReleaseType, Version, VersionBoundKind, VersionRange,
-    VersionReq, WILDCARD_VERSION_REQ,
+    Base, Grammar, InvalidRange, Place, PreRelease, RangeBound, RangeSetOrTag, ReleaseType, Version, VersionBoundKind,
+    VersionRange, VersionReq, WILDCARD_VERSION_REQ,
 };
 use std::error::Error;
 use std::ffi::c_long;
@@ -96,9 +96,9 @@ fn fits(req: &VersionReq, version: &Version, pre_release: PreRelease) -> String 
 }
 
 fn filter(grammar: Grammar, requirement: &str, versions: &str, pre_release: PreRelease) -> Answers {
-    let fits = lists::filter(grammar, requirement, versions, pre_release).map_err(invalid_range)?;
+    let fits = lists::filter(grammar, requirement, versions.lines(), pre_release).map_err(invalid_range)?;
     if let (Grammar::Npm, Ok(req)) = (grammar, VersionReq::parse_from_npm(requirement)) {
-        let list = VersionList::parse(versions);
+        let list = VersionList::parse(versions.lines());
         assert_eq!((list.filter(&req, pre_release), list.len(), list.is_empty()), (fits.clone(), fits.len(), fits.is_empty()));
     }
     if fits.first() == Some(&Fit::Tag) {
@@ -123,7 +123,7 @@ fn best(best: Result<Best, InvalidRange>) -> Answers {
 }
 
 fn sort(versions: &str) -> Answers {
-    places(lists::sort(versions).map_err(|place| format!("invalid version{US}{place}"))?)
+    places(lists::sort(versions.lines()).map_err(|place| format!("invalid version{US}{place}"))?)
 }
 
 fn places(places: Vec<usize>) -> Answers {
@@ -132,7 +132,7 @@ fn places(places: Vec<usize>) -> Answers {
 
 /// What a held list answers about each of two requirements, as both ask it.
 fn list_best(reqs: Result<[VersionReq; 2], String>, versions: &str, ask: impl Fn(&VersionList, &VersionReq) -> Best) -> Answers {
-    let list = VersionList::parse(versions);
+    let list = VersionList::parse(versions.lines());
     Ok(reqs?.iter().map(|req| best(Ok(ask(&list, req)))).collect::<Result<Vec<_>, _>>()?.concat())
 }
 
@@ -301,8 +301,8 @@ fn ask_lists(question: &[&str]) -> Option<Answers> {
     let flag = if question.get(2) == Some(&"admitted") { PreRelease::Admitted } else { PreRelease::Restricted };
     Some(match *question {
         ["filter", name, _, range, versions] => filter(grammar(name), range, versions, flag),
-        ["best", name, _, range, versions] => best(lists::best(grammar(name), range, versions, flag)),
-        ["lowest", name, _, range, versions] => best(lists::lowest(grammar(name), range, versions, flag)),
+        ["best", name, _, range, versions] => best(lists::best(grammar(name), range, versions.lines(), flag)),
+        ["lowest", name, _, range, versions] => best(lists::lowest(grammar(name), range, versions.lines(), flag)),
         ["sort", versions] => sort(versions),
         ["list_best", grammar, _, requirement, versions] => {
             list_best(requirements(grammar, requirement), versions, |list, req| list.best(req, flag))
@@ -310,12 +310,12 @@ fn ask_lists(question: &[&str]) -> Option<Answers> {
         ["list_lowest", grammar, _, requirement, versions] => {
             list_best(requirements(grammar, requirement), versions, |list, req| list.lowest(req, flag))
         }
-        ["list_sort", versions] => places(VersionList::parse(versions).sort()),
-        ["within", name, _, one, other] => lowest_version("no", "yes", lowest::outside(grammar(name), one, other, flag)),
-        ["common", name, _, one, other] => {
-            lowest_version("yes", "no", lowest::common_version(grammar(name), &format!("{one}\n{other}\n"), flag))
+        ["list_sort", versions] => places(VersionList::parse(versions.lines()).sort()),
+        ["within", name, _, one, other] => lowest_version("no", "yes", lowest::counterexample(grammar(name), one, other, flag)),
+        ["common", name, _, one, other] => lowest_version("yes", "no", lowest::common_version(grammar(name), [one, other], flag)),
+        ["common_all", name, _, ranges] => {
+            lowest_version("yes", "no", lowest::common_version(grammar(name), ranges.lines(), flag))
         }
-        ["common_all", name, _, ranges] => lowest_version("yes", "no", lowest::common_version(grammar(name), ranges, flag)),
         ["equivalent", name, _, one, other] => equivalent(lowest::equivalent(grammar(name), one, other, flag)),
         ["min_version", name, _, range] => {
             let lowest = lowest::min_version(grammar(name), range, flag);
@@ -340,7 +340,13 @@ fn ask(question: &[&str]) -> Option<Answers> {
             let (kind, base) = (RELEASE_TYPES[place_of(kind, &KINDS)?], BASES[place_of(base, &["zero", "one", "nothing"])?]);
             versions(version).and_then(|all| {
                 let next = |version: &Version| version.increment(kind, identifiers, base);
-                all.iter().map(|it| next(it).map_or_else(|error| format!("no increment{US}{}", error.message), |next| format!("yes{US}{next}"))).map(Ok).collect()
+                all.iter()
+                    .map(|it| {
+                        next(it)
+                            .map_or_else(|error| format!("no increment{US}{}", error.message), |next| format!("yes{US}{next}"))
+                    })
+                    .map(Ok)
+                    .collect()
             })
         }
         ["difference", one, other] => versions(one).and_then(|one| pairs(one, versions(other)?, same, difference)),
@@ -382,9 +388,10 @@ fn wanted(call: &str, answer: &str) -> String {
         // These have a place and no message.
         ("best" | "lowest" | "sort", ["invalid version", _, place]) => ["invalid version", place].join(US),
         // These have a message and no place.
-        ("overlap" | "equal" | "req_order" | "increment" | "difference" | "compare" | "order", [code @ ("invalid range" | "invalid version"), message, _]) => {
-            [*code, *message].join(US)
-        }
+        (
+            "overlap" | "equal" | "req_order" | "increment" | "difference" | "compare" | "order",
+            [code @ ("invalid range" | "invalid version"), message, _],
+        ) => [*code, *message].join(US),
         // These have a place even if there is one range alone.
         ("min_version" | "filter", ["invalid range", message]) => ["invalid range", *message, "0"].join(US),
         _ => answer.to_string(),

@@ -302,10 +302,10 @@ fn ask_ranges(question: &[&str]) -> Option<Answer> {
     match *question {
         ["min-version", name, pre, text] => lowest_of(lowest::min_version(grammar(name), text, pre_release(pre)).ok()?),
         ["common-version", name, pre, one, other] => {
-            lowest_of(lowest::common_version(grammar(name), &format!("{one}\n{other}\n"), pre_release(pre)).ok()?)
+            lowest_of(lowest::common_version(grammar(name), [one, other], pre_release(pre)).ok()?)
         }
         ["version-outside", name, pre, one, other] => {
-            lowest_of(lowest::outside(grammar(name), one, other, pre_release(pre)).ok()?)
+            lowest_of(lowest::counterexample(grammar(name), one, other, pre_release(pre)).ok()?)
         }
         ["is-equivalent", name, pre, one, other] => match lowest::equivalent(grammar(name), one, other, pre_release(pre)).ok()? {
             Some(same) => yes_or_no(same),
