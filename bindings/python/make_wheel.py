@@ -65,7 +65,9 @@ def files_of(library):
     sources = sorted(path for path in PACKAGE.iterdir() if path.suffix == ".py" or path.name == "py.typed")
     files = {f"{NAME}/{path.name}": path.read_bytes() for path in sources}
     files[f"{NAME}/libdeno_semver.so.0"] = library.read_bytes()
-    files[f"{info}/METADATA"] = METADATA.encode() + (HERE / "README.md").read_bytes()
+    # What a link of the page leads to isn't in the wheel.
+    page = re.sub(r"\[([^\]]*)\]\(\.\.[^)]*\)", r"\1", (HERE / "README.md").read_text())
+    files[f"{info}/METADATA"] = METADATA.encode() + page.encode()
     for path in LICENSES:
         files[f"{info}/licenses/{path.name}"] = path.read_bytes()
     files[f"{info}/WHEEL"] = WHEEL.encode()
