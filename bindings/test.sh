@@ -1,8 +1,9 @@
 #!/bin/sh
-# Compares the declarations of the calls with the library's exports. Then builds the library where a source is newer, and tests the
-# bindings over it: C's, also under the checkers of addresses and threads, Python's, and Rust's where cargo is there, with serde and url
-# where Debian's packages are. Each answers the questions of questions.jsonl and runs its examples, over the heap of heap.c, which counts
-# what is alive. Then the extensions of SQLite and PostgreSQL, and the npm package over the same library (js/test.sh). It stops at the first failure.
+# Compares the declarations of the calls with the library's exports, and README's table of calls with what each language has. Then builds the
+# library where a source is newer, and tests the bindings over it: C's, also under the checkers of addresses and threads, Python's, and
+# Rust's where cargo is there, with serde and url where Debian's packages are. Each answers the questions of questions.jsonl and runs its
+# examples, over the heap of heap.c, which counts what is alive. Then the extensions of SQLite and PostgreSQL, and the npm package over the
+# same library (js/test.sh). It stops at the first failure.
 #
 # usage: test.sh [c] [python] [rust] [sqlite] [postgres] [js] [speed]; by default all but speed, which prints the times of calls.
 # OUT is a folder for what is built, by default bindings/out; CC is the C compiler.
@@ -41,6 +42,15 @@ shared() {
     compile -shared "$@" -o "$out/$name" -Wl,--whole-archive "$lib/libsemver_c.a" "$heap/liblibc_c.a" -Wl,--no-whole-archive
 }
 
+# Runs an example of ../examples, which prints so many of the lines of resolved.txt: their number, and the command.
+resolves() {
+    lines=$1
+    shift
+    head -n "$lines" "$here/../examples/resolved.txt" >"$out/wanted"
+    "$@" >"$out/resolved"
+    diff "$out/wanted" "$out/resolved" || { echo "another answer is expected of: $*" >&2; exit 1; }
+}
+
 # Whether the compiler has this checker, and the machine runs it.
 has_checker() {
     echo 'int main(void) { return 0; }' | ${CC:-cc} "-fsanitize=$1" -x c -o "$out/checked" - 2>/dev/null && "$out/checked"
@@ -64,6 +74,10 @@ c() {
             "$out/$name"
         done
     done
+    mkdir -p "$out/include/deno_semver"
+    cp "$here/c/semver.h" "$out/include/deno_semver"
+    compile -I"$out/include" -o "$out/resolve" "$here/../examples/resolve.c" "$lib/libsemver_c.a" "$kit/liblibc_c.a"
+    resolves 4 "$out/resolve"
     for checks in "" $(has_checker thread && echo -fsanitize=thread); do
         echo "C, threads $checks"
         program threads "$out/heap" -pthread $checks
@@ -86,6 +100,12 @@ python() {
         echo "and under the address checker"
     fi
     python3 -m doctest "$here/python/README.md"
+    resolves 4 python3 "$here/../examples/resolve.py"
+    if command -v mypy >/dev/null; then
+        (cd "$here/python" && MYPYPATH=. mypy --strict --cache-dir=/dev/null deno_semver tests/typed.py)
+    else
+        echo "types: left out, since there is no mypy: apt-get install mypy"
+    fi
     unset PYTHONPATH DENO_SEMVER_LIBRARY
     shared libdeno_semver.so.0 "$kit" -s
     rm -rf "$out/wheel" "$out/environment"
@@ -130,6 +150,9 @@ rust() {
         empty_crates
     fi
     SEMVER_LIB=$lib RATTLE_C=$out/heap QUESTIONS=$out/questions.flat offline test --features $features
+    export SEMVER_LIB=$lib RATTLE_C=$kit
+    resolves 4 offline run --example resolve
+    unset SEMVER_LIB RATTLE_C
 }
 
 # SQLite's extension over the counting heap.
@@ -144,6 +167,7 @@ sqlite() {
     compile -o "$out/rows" "$here/sqlite/rows.c" -lsqlite3 -ldl
     "$out/rows" "$out/mod_deno_semver.so" "$here/sqlite/rows.txt"
     python3 "$here/sqlite/check.py" "$out/mod_deno_semver.so"
+    resolves 3 sqlite3 :memory: ".load $out/mod_deno_semver" ".read $here/../examples/resolve.sqlite.sql"
 }
 
 # PostgreSQL's extension, in a server of its own.
@@ -152,8 +176,8 @@ postgres() {
         echo "PostgreSQL: left out, since there is no server to build for: apt-get install postgresql postgresql-server-dev-15"
         return
     fi
-    mkdir -p "$out/postgres/lib" "$out/postgres/include"
-    cp "$here/c/semver.h" "$out/postgres/include"
+    mkdir -p "$out/postgres/lib" "$out/postgres/include/deno_semver"
+    cp "$here/c/semver.h" "$out/postgres/include/deno_semver"
     rm -f "$out/postgres/lib/libdeno_semver.a"
     printf 'create %s\naddlib %s\naddlib %s\nsave\nend\n' "$out/postgres/lib/libdeno_semver.a" "$lib/libsemver_c.a" "$kit/liblibc_c.a" | ar -M
     "$here/postgres/test.sh" "$out/postgres"
@@ -186,6 +210,7 @@ for part; do
 done
 mkdir -p "$out"
 "$here/declarations.py" --check
+"$here/calls.py" --check
 "$here/library.py" >"$out/library.log" 2>&1 || { cat "$out/library.log" >&2; exit 1; }
 make_heap
 python3 "$here/flatten.py" "$here/questions.jsonl" >"$out/questions.flat"

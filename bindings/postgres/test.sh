@@ -4,7 +4,7 @@
 # is restored, an update to a next version, pg_upgrade, random matches (check.py), a session that runs out of memory, and calls by the million,
 # whose memory must stay. It stops at the first failure.
 #
-# usage: test.sh FOLDER    FOLDER has lib/libdeno_semver.a and include/semver.h, as make install makes them; a server doesn't run as root, so then
+# usage: test.sh FOLDER    FOLDER has lib/libdeno_semver.a and include/deno_semver/semver.h, as make install makes them; a server doesn't run as root, so then
 # it runs as the user postgres
 set -e
 postgres=$(cd "$(dirname "$0")" && pwd)
@@ -106,6 +106,13 @@ upgrade() {
     echo 'PostgreSQL: upgraded by pg_upgrade'
 }
 
+# The example, whose lines are those of other languages.
+resolve() {
+    head -n 3 "$postgres/../../examples/resolved.txt" >"$root/wanted"
+    "$bin/psql" -XqAt -v ON_ERROR_STOP=1 -d stored <"$postgres/../../examples/resolve.postgres.sql" | diff "$root/wanted" - ||
+        fail 'the example has another answer'
+}
+
 # ---- a session that is asked one question after another
 
 session() { # DATABASE OPTION.. of psql
@@ -175,5 +182,6 @@ update
 dump
 upgrade
 python3 "$postgres/check.py" "$bin/psql"
+resolve
 run_out
 repeat

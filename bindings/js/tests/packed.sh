@@ -14,6 +14,8 @@ cd "$folder"
 npm install --offline --silent --no-audit --no-fund ./deno-semver-*.tgz
 node module.mjs
 node common.cjs
+cp "$here/../../../examples/resolve.mjs" .
+node resolve.mjs | diff "$here/../../../examples/resolved.txt" -
 if command -v tsc >/dev/null; then
     tsc --strict --target es2022 --module node16 --moduleResolution node16 --noEmit typed.mts typed.cts
     tsc --strict --target es2022 --module commonjs --moduleResolution node --noEmit typed.cts

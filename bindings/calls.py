@@ -1,0 +1,98 @@
+#!/usr/bin/env python3
+"""Writes the table of calls in README.md from calls.tsv: what each call is named in each language, in `ranges` and in node-semver.
+
+    bindings/calls.py [--check]
+
+Each name must be one that the language has, and each call of C, function of Python and JavaScript, and command of `ranges` must stand in a
+row; what differs is printed, and the status is 1 then. With --check nothing is written, and a table that is stale is printed as well."""
+import pathlib
+import re
+import sys
+
+HERE = pathlib.Path(__file__).resolve().parent
+TOP = HERE.parent
+PAGE = HERE / "README.md"
+MARKS = ("<!-- calls.tsv, by calls.py -->\n", "<!-- end of calls.tsv -->\n")
+# Calls of C that ask nothing of a value, and commands that answer by another one's question.
+OTHERS = {
+    "C": {"api", "req_read", "version_read", "list_read", "req_free", "version_free", "list_free", "scans_free", "req_text", "req_equal", "req_order", "version_text"},
+    "Python": set(),
+    "JavaScript": set(),
+    "ranges": {"overlap", "outdated", "help"},
+}
+
+
+def found(pattern, *paths):
+    return set(re.findall(pattern, "\n".join(path.read_text() for path in paths), re.M))
+
+
+def members(paths, head, member):
+    """Names such as Range.matches, of classes whose bodies are indented."""
+    names = set()
+    for path in paths:
+        for name, body in re.findall(rf"^{head}(\w+)[^\n]*\n((?:[ \t}}][^\n]*\n|\n)*)", path.read_text(), re.M):
+            names |= {f"{name}.{it}" for it in re.findall(member, body, re.M)}
+    return names
+
+
+def names_of():
+    """The names that each language has."""
+    python = sorted((HERE / "python/deno_semver").glob("*.py"))
+    rust = sorted((HERE / "rust/src").glob("*.rs"))
+    types, compat = HERE / "js/src/index.d.ts", HERE / "js/src/compat.d.ts"
+    commands = re.search(r'compgen -W "(check .*?) help --help', (TOP / "packaging/completions/ranges.bash").read_text()).group(1)
+    return {
+        "C": found(r"\bsemver_(\w+)\(", HERE / "c/semver.h"),
+        "Python": found(r'^    "(\w+)",', python[0]) | members(python, "class ", r"^    def (\w+)"),
+        "Rust": found(r"\bfn (\w+)", *rust),
+        "JavaScript": found(r"^export (?:function|class) (\w+)", types) | members([types], "export class ", r"^  (?:get )?(\w+)(?:\(|:)"),
+        "ranges": set(commands.split()),
+        "node-semver": found(r"^export function (\w+)", compat),
+    }
+
+
+def wanted(names):
+    """The names that must stand in a row, for each language."""
+    return {
+        "C": names["C"],
+        "Python": {name for name in names["Python"] if name.islower() and "." not in name},
+        "JavaScript": {name for name in names["JavaScript"] if name[0].islower() and "." not in name},
+        "ranges": names["ranges"],
+    }
+
+
+def faults(rows):
+    names = names_of()
+    stated = {language: {it for row in rows for it in row[language]} for language in names}
+    for language, stands in stated.items():
+        # A name of Rust is known by its last part.
+        yield from (f"{language} has no {it}" for it in stands if (it.split("::")[-1] if language == "Rust" else it) not in names[language])
+    for language, all_of in wanted(names).items():
+        yield from (f"no row has {it} of {language}" for it in sorted(all_of - stated[language] - OTHERS[language]))
+
+
+def table(heads, rows):
+    lines = ["| " + " | ".join(heads) + " |", "|" + "---|" * len(heads)]
+    for row in rows:
+        cells = [", ".join(f"`{it}`" for it in row[head]) for head in heads[1:]]
+        lines.append("| " + " | ".join([row[heads[0]], *cells]) + " |")
+    return "\n".join(lines) + "\n"
+
+
+def main():
+    heads, *lines = [line.split("\t") for line in (HERE / "calls.tsv").read_text().splitlines()]
+    rows = [dict(zip(heads, [line[0], *([it for it in cell.split(", ") if it] for cell in line[1:])])) for line in lines]
+    problems = list(faults(rows))
+    before, rest = PAGE.read_text().split(MARKS[0])
+    stale, behind = rest.split(MARKS[1])
+    made = table(heads, rows)
+    if sys.argv[1:] == ["--check"]:
+        problems += ["bindings/README.md has another table: run bindings/calls.py"] * (stale != made)
+    else:
+        PAGE.write_text(before + MARKS[0] + made + MARKS[1] + behind)
+    print(*problems, sep="\n", end="\n" * bool(problems))
+    return bool(problems)
+
+
+if __name__ == "__main__":
+    sys.exit(main())
