@@ -26,7 +26,7 @@ STRIPPED := out/ranges out/npmver
 SQLITE := $(shell echo '\#include <sqlite3ext.h>' | $(CC) -E -x c - >/dev/null 2>&1 && echo $(OUT)/mod_deno_semver.so)
 LIBRARIES = $(OUT)/$(SONAME) $(OUT)/libdeno_semver.a $(OUT)/deno_semver.pc $(SQLITE)
 
-.PHONY: all libraries x86_64 aarch64 try test dist install uninstall version help clean tools
+.PHONY: all libraries x86_64 aarch64 try test dist install uninstall version help mostlyclean clean tools
 
 all: tools $(STRIPPED) libraries
 
@@ -34,17 +34,18 @@ libraries: $(LIBRARIES)
 	@[ -n '$(SQLITE)' ] || echo "There is no extension of SQLite: $(CC) finds no sqlite3ext.h (Debian's package libsqlite3-dev)"
 
 help:
-	@echo 'make            prove and build the programs and libraries'
-	@echo 'make try        one answer within a minute, without the proof'
-	@echo 'make test       the whole gate: every proof and every test'
-	@echo 'make dist       a release in out/dist: tarballs, a Debian package, a wheel, a crate, an npm package, checksums'
-	@echo 'make install    install below PREFIX (/usr/local), the libraries in LIBDIR (PREFIX/lib), within DESTDIR if it is set'
-	@echo 'make uninstall  remove what make install put there'
-	@echo 'make version    print the version'
-	@echo 'make clean      remove what make put into out/'
+	@echo 'make              prove and build the programs and libraries'
+	@echo 'make try          one answer within a minute, without the proof'
+	@echo 'make test         the whole gate: every proof and every test'
+	@echo 'make dist         a release in out/dist: sources, tarballs, a Debian package, a wheel, a crate, an npm package, checksums'
+	@echo 'make install      install below PREFIX (/usr/local), the libraries in LIBDIR (PREFIX/lib), within DESTDIR if it is set'
+	@echo 'make uninstall    remove what make install put there'
+	@echo 'make version      print the version'
+	@echo 'make mostlyclean  remove what was linked, and keep the proofs'
+	@echo 'make clean        remove all that was built, the proofs too'
 
 tools:
-	@packaging/tools.sh rt $(CC) $(AR) strip python3
+	@packaging/tools.sh rt '$(CC)' $(AR) strip python3
 
 try:
 	@packaging/tools.sh rt
@@ -125,5 +126,8 @@ uninstall:
 version:
 	@echo '$(VERSION)'
 
-clean:
-	rm -rf out
+mostlyclean:
+	rm -rf out bindings/out bindings/js/out bindings/rust/target
+
+clean: mostlyclean
+	rm -rf crates/*/out

@@ -1,5 +1,5 @@
 #!/bin/sh
-# Writes a release into the folder DIST: for each processor of ARCHES a tarball with static programs and the C library, and one with what
+# Writes a release into the folder DIST: the sources; for each processor of ARCHES a tarball with static programs and the C library, and one with what
 # the programs are linked from; a Debian package, a wheel, a crate, the npm package and the page where they are built, SHA256SUMS, and
 # RELEASE, which says what it was made of. The same commit and tools give the same bytes. Run by `make dist`, at the top; with GATE empty
 # the proofs and mutations aren't run before it, and with STATIC empty the programs aren't static; RELEASE says so.
@@ -81,6 +81,22 @@ pack() { # FOLDER NAME
     gzip -9n <"$work/$2.tar" >"$made/$2.tar.gz"
 }
 
+# The sources, as git has them.
+sources() {
+    name=deno_semver-$VERSION
+    git archive --prefix="$name/" HEAD | gzip -9n >"$made/$name.tar.gz"
+}
+
+# The pages that README leads to.
+pages() {
+    git ls-files '*.md' ':!README.md'
+}
+
+# A page without the links that lead nowhere in a package, on standard input.
+unlinked() {
+    sed -E 's/\[([^]]*)\]\(\.\.[^)]*\)/\1/g'
+}
+
 # The pkg-config file names its own place, so that a tarball works in any folder.
 tarball() { # ARCH
     name=deno_semver-$VERSION-$1-linux
@@ -88,6 +104,7 @@ tarball() { # ARCH
     sed -i 's|^prefix=.*|prefix=${pcfiledir}/../..|' "$work/$name/lib/pkgconfig/deno_semver.pc"
     rm -r "$work/$name/share/doc"
     cp LICENSE packaging/THIRD-PARTY README.md "$work/$name"
+    pages | xargs cp --parents -t "$work/$name"
     if [ -n "$STATIC" ]; then cp packaging/LGPL-2.1 "$work/$name"; fi
     pack "$name" "$name"
 }
@@ -135,7 +152,8 @@ debian() {
 rust_crate() {
     name=deno_semver_proved-$VERSION
     mkdir -p "$work/$name/lib/x86_64-unknown-linux-gnu"
-    cp -r bindings/rust/src bindings/rust/examples bindings/rust/build.rs bindings/rust/Cargo.toml bindings/rust/README.md "$work/$name"
+    cp -r bindings/rust/src bindings/rust/examples bindings/rust/build.rs bindings/rust/Cargo.toml "$work/$name"
+    unlinked <bindings/rust/README.md >"$work/$name/README.md"
     cp LICENSE packaging/THIRD-PARTY "$work/$name"
     cp "$calls" "$heap" "$work/$name/lib/x86_64-unknown-linux-gnu"
     pack "$name" "$name-x86_64-linux"
@@ -167,7 +185,7 @@ packages() {
 
 # The version of the GNU C library below the compiler.
 glibc() {
-    echo '#include <features.h>' | "${CC:-cc}" -E -dM - |
+    echo '#include <features.h>' | ${CC:-cc} -E -dM - |
         awk '/ __GLIBC__ /{ major = $3 } / __GLIBC_MINOR__ /{ minor = $3 } END { print major "." minor }'
 }
 
@@ -207,6 +225,7 @@ work=$(mktemp -d)
 trap 'rm -rf "$work"' EXIT
 made=$work/made
 mkdir "$made"
+sources
 for arch in $ARCHES; do
     link "$arch"
     tarball "$arch"

@@ -1,5 +1,5 @@
 /* Whether ^1.2 matches 1.3.0, by the installed library; prints it as the README of bindings/c does. */
-#include <semver.h>
+#include <deno_semver/semver.h>
 #include <stdio.h>
 #include <string.h>
 

@@ -20,6 +20,16 @@ EXAMPLES = (
     "ranges within '>=1.3' '^1.2'",
     "git tag | ranges best --tags --skip-invalid '^1.2'",
 )
+DESCRIPTION = (
+    "A version is three numbers, as 1.2.3, and perhaps a pre-release and a build, as 1.2.3-rc.1+linux.",
+    "A range says which versions a package accepts, as >=1.2 <2 || 3.x; the grammar of ranges is npm's by default, the normalized one, or the "
+    "strict one of package specifiers. A tag, such as latest, is a name that a registry gives a version.",
+    "A pre-release matches by npm's rule: if a bound of the range is a pre-release of its three numbers. With --pre each one between the bounds "
+    "matches.",
+    "The canonical form of a range is the shortest usual text that means the same.",
+    "Where a file is named, - is standard input. Behind -- each argument is one, also where it begins with a hyphen.",
+)
+ENVIRONMENT = (("NO_COLOR", "If it is set and not empty, nothing is printed in colour."),)
 PROGRAM = TOP / "crates/ranges/out/ranges"
 
 
@@ -30,6 +40,9 @@ class Option:
     short: Optional[str] = None
     value: Optional[str] = None
     choices: List[str] = field(default_factory=list)
+
+    def names(self):
+        return [f"-{self.short}"] * bool(self.short) + [f"--{self.name}"]
 
 
 @dataclass
@@ -95,7 +108,7 @@ def bold(text):
 
 def manual(description, commands):
     lines = [".TH RANGES 1", ".SH NAME", f"ranges \\- {roff(description)}", ".SH SYNOPSIS", ".B ranges", "\\fICOMMAND\\fR [\\fIARGUMENT\\fR]..."]
-    lines.append(".SH COMMANDS")
+    lines += [".SH DESCRIPTION", *("\n.PP\n".join(map(roff, DESCRIPTION))).split("\n"), ".SH COMMANDS"]
     for each in commands:
         alias = f" Or ranges {', '.join(each.aliases)}." if each.aliases else ""
         lines += [f".SS {bold('ranges ' + each.usage.replace('[OPTIONS] ', ''))}", roff(f"{each.help}.{alias}")]
@@ -113,31 +126,39 @@ def manual(description, commands):
     lines.append(".SH EXIT STATUS")
     for status, meaning in statuses():
         lines += [".TP", bold(status), roff(meaning) + "."]
+    lines.append(".SH ENVIRONMENT")
+    for name, meaning in ENVIRONMENT:
+        lines += [".TP", bold(name), roff(meaning)]
     lines += [".SH EXAMPLES", ".nf", *map(roff, EXAMPLES), ".fi", ".SH SEE ALSO", ".BR npmver (1)"]
     return "\n".join(lines) + "\n"
 
 
 def bash(commands):
     def names_of(command):
-        return " ".join(name for one in command.options for name in ([f"-{one.short}"] if one.short else []) + [f"--{one.name}"])
+        return " ".join(name for one in command.options for name in one.names())
 
     cases = [f'        {"|".join(each.names())}) options="{names_of(each)}" ;;' for each in commands]
-    with_files = "|".join(each.name for each in commands if each.takes_files())
-    choices = {one.name: one.choices for each in commands for one in each.options if one.choices}
-    values = [f'        --{name}) COMPREPLY=($(compgen -W "{" ".join(texts)}" -- "$word")); return ;;' for name, texts in choices.items()]
+    with_files = "|".join(name for each in commands if each.takes_files() for name in each.names())
+    having = {one.name: one for each in commands for one in each.options if one.choices}.values()
+    values = [f'        {"|".join(it.names())}) COMPREPLY=($(compgen -W "{" ".join(it.choices)}" -- "$word")); return ;;' for it in having]
     names = " ".join(name for each in commands for name in each.names())
     return "\n".join([
         "_ranges() {",
-        '    local word=${COMP_WORDS[COMP_CWORD]} options=""',
+        '    local word=${COMP_WORDS[COMP_CWORD]} before=${COMP_WORDS[COMP_CWORD - 1]} options=""',
         "    COMPREPLY=()",
-        "    case ${COMP_WORDS[COMP_CWORD - 1]} in", *values, "    esac",
+        "    # The words of --OPTION=VALUE are three.",
+        '    if [ "$word" = = ]; then word=""; elif [ "$before" = = ]; then before=${COMP_WORDS[COMP_CWORD - 2]}; fi',
+        "    case $before in", *values, "    esac",
         '    if [ "$COMP_CWORD" = 1 ]; then',
         f'        COMPREPLY=($(compgen -W "{names} help --help --version" -- "$word"))',
         "        return",
         "    fi",
         "    case ${COMP_WORDS[1]} in", *cases, "    esac",
         '    case $word in -*) COMPREPLY=($(compgen -W "$options" -- "$word")); return ;; esac',
-        f'    case ${{COMP_WORDS[1]}} in {with_files}) COMPREPLY=($(compgen -f -- "$word")) ;; esac',
+        f"    case ${{COMP_WORDS[1]}} in {with_files})",
+        "        compopt -o filenames 2>/dev/null",
+        '        mapfile -t COMPREPLY < <(compgen -f -- "$word") ;;',
+        "    esac",
         "}",
         "complete -F _ranges ranges",
         "",
@@ -154,8 +175,10 @@ def zsh(commands):
     for each in commands:
         lines.append(f"    {'|'.join(each.names())}) _arguments \\")
         for one in each.options:
-            value = f":{one.value}:({' '.join(one.choices)})" if one.value else ""
-            names = f"'(-{one.short} --{one.name})'{{-{one.short},--{one.name}}}'" if one.short else f"'--{one.name}"
+            value = f":{one.value}:({' '.join(one.choices)})" if one.choices else f":{one.value}:" if one.value else ""
+            plus, equals = ("+", "=") if one.value else ("", "")
+            short, long = f"-{one.short}{plus}", f"--{one.name}{equals}"
+            names = f"'(-{one.short} --{one.name})'{{{short},{long}}}'" if one.short else f"'{long}"
             lines.append(f"        {names}[{quoted(one.help)}]{value}' \\")
         lines.append("        '*:file:_files' ;;" if each.takes_files() else "        '*:argument:' ;;")
     return "\n".join([*lines, "esac", ""])

@@ -24,12 +24,15 @@ files() {
 644 $from/libdeno_semver.so.0 $LIBDIR/libdeno_semver.so.0
 644 $from/libdeno_semver.a $LIBDIR/libdeno_semver.a
 644 $from/deno_semver.pc $LIBDIR/pkgconfig/deno_semver.pc
-644 bindings/c/semver.h $PREFIX/include/semver.h
+644 bindings/c/semver.h $PREFIX/include/deno_semver/semver.h
 644 packaging/man/ranges.1 $share/man/man1/ranges.1
 644 packaging/man/npmver.1 $share/man/man1/npmver.1
 644 packaging/completions/ranges.bash $share/bash-completion/completions/ranges
+644 packaging/completions/npmver.bash $share/bash-completion/completions/npmver
 644 packaging/completions/_ranges $share/zsh/site-functions/_ranges
+644 packaging/completions/_npmver $share/zsh/site-functions/_npmver
 644 packaging/completions/ranges.fish $share/fish/vendor_completions.d/ranges.fish
+644 packaging/completions/npmver.fish $share/fish/vendor_completions.d/npmver.fish
 644 LICENSE $share/doc/deno-semver/LICENSE
 644 packaging/THIRD-PARTY $share/doc/deno-semver/THIRD-PARTY
 END
@@ -55,7 +58,12 @@ check() {
 remove() {
     files | while read -r _ _ target; do rm -f "$DESTDIR$target"; done
     rm -f "$DESTDIR$LIBDIR/libdeno_semver.so" "$DESTDIR$LIBDIR/mod_deno_semver.so"
-    rmdir "$DESTDIR$PREFIX/share/doc/deno-semver" 2>/dev/null || true
+    rmdir "$DESTDIR$PREFIX/share/doc/deno-semver" "$DESTDIR$PREFIX/include/deno_semver" 2>/dev/null || true
+}
+
+# The day of the release, of the commit, or today.
+dated() {
+    date -u -d "@${SOURCE_DATE_EPOCH:-$(git log -1 --format=%ct 2>/dev/null || date +%s)}" +%F
 }
 
 copy() {
@@ -71,9 +79,12 @@ copy() {
     esac
     sed -i -e "s|@PREFIX@|$PREFIX|" -e "s|@LIBDIR@|$libdir|" "$DESTDIR$LIBDIR/pkgconfig/deno_semver.pc"
     for page in ranges npmver; do
-        sed -i "1s|^\.TH [A-Z]* 1\$|& \"\" \"deno_semver ${VERSION:?}\"|" "$DESTDIR$PREFIX/share/man/man1/$page.1"
+        sed -i "1s|^\.TH [A-Z]* 1\$|& \"$(dated)\" \"deno_semver ${VERSION:?}\"|" "$DESTDIR$PREFIX/share/man/man1/$page.1"
     done
     echo "Installed ranges, npmver and libdeno_semver below $DESTDIR$PREFIX"
+    if [ -z "$DESTDIR" ]; then
+        echo "Before a program finds the shared library in $LIBDIR, run ldconfig as root, or set LD_LIBRARY_PATH"
+    fi
 }
 
 check_path PREFIX "$PREFIX"

@@ -53,12 +53,12 @@ try_c() { # LIBDIR COMPILER COMMAND..
         return
     fi
     export PKG_CONFIG_LIBDIR="$libraries/pkgconfig"
-    "$compiler" -o "$root/shared" packaging/example.c $(pkg-config --cflags --libs deno_semver)
-    "$compiler" -o "$root/static" packaging/example.c $(pkg-config --cflags deno_semver) "$libraries/libdeno_semver.a"
+    $compiler -o "$root/shared" packaging/example.c $(pkg-config --cflags --libs deno_semver)
+    $compiler -o "$root/static" packaging/example.c $(pkg-config --cflags deno_semver) "$libraries/libdeno_semver.a"
     expect yes env LD_LIBRARY_PATH="$libraries" "$@" "$root/shared"
     expect yes "$@" "$root/static"
     # Within another shared library the calls can stay hidden.
-    "$compiler" -shared -fPIC -o "$root/own.so" packaging/example.c $(pkg-config --cflags deno_semver) "$libraries/libdeno_semver.a" \
+    $compiler -shared -fPIC -o "$root/own.so" packaging/example.c $(pkg-config --cflags deno_semver) "$libraries/libdeno_semver.a" \
         -Wl,--exclude-libs,libdeno_semver.a
     if nm -D --defined-only "$root/own.so" | grep ' semver_\| rattle_'; then fail 'a shared library over the archive exports its symbols'; fi
     rm "$root/shared" "$root/static" "$root/own.so"
@@ -93,15 +93,18 @@ installed() { # LIBDIR FOLDER
     cat <<END
 755 bin/npmver
 755 bin/ranges
-644 include/semver.h
+644 include/deno_semver/semver.h
 644 $1/libdeno_semver.a
 link $1/libdeno_semver.so libdeno_semver.so.0
 644 $1/libdeno_semver.so.0
 644 $1/pkgconfig/deno_semver.pc
+644 share/bash-completion/completions/npmver
 644 share/bash-completion/completions/ranges
+644 share/fish/vendor_completions.d/npmver.fish
 644 share/fish/vendor_completions.d/ranges.fish
 644 share/man/man1/npmver.1
 644 share/man/man1/ranges.1
+644 share/zsh/site-functions/_npmver
 644 share/zsh/site-functions/_ranges
 END
     if [ -f "$2/mod_deno_semver.so" ]; then echo "644 $1/mod_deno_semver.so"; fi
@@ -191,7 +194,7 @@ install_and_remove() {
 # What the programs ask of the kit's C on x86-64 is there for arm64 too. This needs no compiler for arm64.
 has_arm64_calls() {
     for part in system heap; do
-        "${CC:-cc}" -O2 -Wall -Wextra -Werror -c -o "$root/$part.o" "packaging/arm64/$part.c"
+        ${CC:-cc} -O2 -Wall -Wextra -Werror -c -o "$root/$part.o" "packaging/arm64/$part.c"
     done
     nm -u out/x86_64/ranges.o out/x86_64/npmver.o | grep -o 'rattle_.*' | sort -u >"$root/asked"
     nm --defined-only "$root/system.o" "$root/heap.o" | grep -o 'rattle_.*' | sort -u >"$root/present"
@@ -209,6 +212,23 @@ release_twice() {
     (cd "$root/first" && sha256sum --quiet -c SHA256SUMS)
 }
 
+# Each link of a page to another file leads to one.
+links_lead() { # PAGE..
+    for page; do
+        grep -o '](\([^)#]*\)' "$page" | sed 's/^](//' | grep -v '^$\|^[a-z]*:' | while read -r link; do
+            [ -e "$(dirname "$page")/$link" ] || fail "$page has a link to $link, which isn't there"
+        done
+    done
+}
+
+# The sources are what git has, and say their version.
+try_sources() {
+    tar -C "$root" -xzf "$root/first/deno_semver-$version.tar.gz"
+    (cd "$root/deno_semver-$version" && find . -type f -printf '%P\n' | sort) >"$root/found"
+    git ls-files | sort | diff - "$root/found" >&2 || fail 'the tarball of the sources holds other files than git'
+    expect "$version" make -s -C "$root/deno_semver-$version" version
+}
+
 # Unpacks a tarball, and tries every row of the programs besides.
 try_tarball() { # ARCH COMPILER COMMAND..
     arch=$1 compiler=$2
@@ -218,9 +238,11 @@ try_tarball() { # ARCH COMPILER COMMAND..
     {
         installed lib "out/$arch"
         printf '644 %s\n' LICENSE README.md THIRD-PARTY
+        git ls-files '*.md' ':!README.md' | sed 's/^/644 /'
         if [ -n "$static" ]; then echo '644 LGPL-2.1'; fi
     } | holds "$unpacked"
     licensed "$unpacked"
+    links_lead "$unpacked/README.md" "$unpacked"/bindings/*/README.md
     if [ -n "$static" ] && readelf -l "$unpacked/bin/ranges" "$unpacked/bin/npmver" | grep INTERP; then
         fail 'a program of the release needs a loader'
     fi
@@ -237,7 +259,7 @@ try_objects() { # COMMAND..
     licensed "$objects"
     sed -n 's/^    cc \(-static .*\)/\1/p' packaging/THIRD-PARTY >"$root/commands"
     [ -s "$root/commands" ] || fail "packaging/THIRD-PARTY doesn't say how to link the programs"
-    while read -r options; do (cd "$objects" && "$compiler" $options); done <"$root/commands"
+    while read -r options; do (cd "$objects" && $compiler $options); done <"$root/commands"
     expect "ranges $version" "$@" "$objects/ranges" --version
     expect yes "$@" "$objects/npmver" fits npm '>=1.2 <2 || 3' 1.3.0
 }
@@ -282,6 +304,7 @@ try_packages() {
     licensed "$(echo "$root"/environment/lib/python3*/site-packages/"deno_semver-$version.dist-info/licenses")"
     tar -C "$root" -xzf "$root/first/deno_semver_proved-$version-x86_64-linux.tar.gz"
     licensed "$root/deno_semver_proved-$version"
+    links_lead "$root/deno_semver_proved-$version/README.md"
     if has cargo; then
         mkdir -p "$root/user/src"
         printf '[package]\nname = "user"\nversion = "0.1.0"\nedition = "2021"\n[dependencies]\ndeno_semver_proved = { path = "../deno_semver_proved-%s" }\n' "$version" >"$root/user/Cargo.toml"
@@ -388,6 +411,7 @@ else
 fi
 if [ -n "$static" ]; then has_arm64_calls; fi
 release_twice
+try_sources
 try_tarball x86_64 "${CC:-cc}"
 try_packages
 try_debian

@@ -4,6 +4,7 @@
 #
 # usage: tools.sh [--static] [--tests] COMMAND..
 #
+# A compiler may have options: tools.sh 'gcc -m64'.
 # With --static the compilers link a program without shared libraries. With --tests it also looks for what the scripts of .ci/run need.
 TESTS='rt bash cc ar strip nm objcopy objdump readelf make git python3 tar gzip sha256sum'
 
@@ -50,16 +51,16 @@ done
 for command in ${tests:+$TESTS} "$@"; do
     case $seen in *" $command "*) continue ;; esac
     seen="$seen$command "
-    if ! has "$command"; then
-        misses "$command" "$(package_of "$command")"
+    if ! has "${command%% *}"; then
+        misses "${command%% *}" "$(package_of "${command%% *}")"
         continue
     fi
-    case $command in
+    case ${command%% *} in
         cc | gcc | clang) library=libc6-dev ;;
         aarch64-linux-gnu-gcc) library=libc6-dev-arm64-cross ;;
         *) continue ;;
     esac
-    links "$command" $static || misses "$command that links a ${static:+static }program" "Debian's package $library"
+    links $command $static || misses "$command that links a ${static:+static }program" "Debian's package $library"
 done
 if [ -n "$tests" ]; then
     if has python3 && ! python3 -c 'import ensurepip, venv' 2>/dev/null; then
