@@ -1,6 +1,8 @@
 // The page: what is typed is explained at once.
 
-import { canonical, common, counterexample, diagnose, explain, isEquivalent, minVersion, overlaps } from 'deno-semver';
+import {
+  Version, VersionSyntaxError, canonical, common, compare, counterexample, diagnose, explain, isEquivalent, matches, minVersion, overlaps,
+} from 'deno-semver';
 import { numberLine } from './number-line.js';
 
 const at = (id) => document.getElementById(id);
@@ -25,6 +27,27 @@ function boundsText({ start, end }) {
 function preReleasesText({ preReleases }) {
   if (preReleases === 'all') return 'all between the bounds';
   return preReleases.length ? `of ${preReleases.join(' and ')}` : 'none';
+}
+
+/** Whether a version is on the right side of a bound; `side` is -1 for a lower bound and 1 for an upper one. */
+function isInside(version, bound, side) {
+  const order = bound === null ? -side : compare(version, bound.version);
+  return order === -side || (order === 0 && bound.inclusive);
+}
+
+/** Why an alternative doesn't match a version. */
+function whyNot(version, { start, end }) {
+  if (!isInside(version, start, -1)) return `not ${boundsText({ start, end: null })}`;
+  if (!isInside(version, end, 1)) return `not ${boundsText({ start: null, end })}`;
+  return `a pre-release, and no bound is one of ${version.split('-', 1)[0]}`;
+}
+
+/** Whether the range matches the version, and by which alternative, or why not. */
+function matchText(range, version, { alternatives }, options) {
+  const valid = alternatives.filter(({ error }) => !error);
+  const named = (it) => it.text || '*';
+  if (matches(range, version, options)) return `yes: ${named(valid.find(({ text }) => matches(text, version, options)))}`;
+  return `no: ${valid.map((it) => `${named(it)}: ${whyNot(version, it)}`).join('; ')}`;
 }
 
 function describe(rows) {
@@ -81,9 +104,24 @@ function explained(field, options) {
   return meaning;
 }
 
-function summaryOf(range, meaning, options) {
+/** The version of the field, as displayed; undefined where it's empty or invalid, with its mistake shown. */
+function versionOf(field) {
+  showProblem(field, []);
+  if (field.value === '') return undefined;
+  try {
+    return String(new Version(field.value));
+  } catch (error) {
+    if (!(error instanceof VersionSyntaxError)) throw error;
+    showProblem(field, [error]);
+    return undefined;
+  }
+}
+
+function summaryOf(range, version, meaning, options) {
   if (meaning.tag !== undefined) return [['Tag', meaning.tag]];
+  const match = version === undefined ? [] : [[`Matches ${version}`, matchText(range, version, meaning, options)]];
   return [
+    ...match,
     ['Canonical form', meaning.canonical],
     ['Lowest version', minVersion(range, options) ?? 'no version matches'],
   ];
@@ -109,8 +147,8 @@ function rowsOf(meaning, side) {
   return (meaning?.alternatives ?? []).map((alternative) => ({ ...alternative, side }));
 }
 
-function showMeaning(range, meaning, options) {
-  showPairs(at('summary'), meaning ? summaryOf(range, meaning, options) : []);
+function showMeaning(range, version, meaning, options) {
+  showPairs(at('summary'), meaning ? summaryOf(range, version, meaning, options) : []);
   at('alternatives').replaceChildren(...(meaning?.alternatives ?? []).map(alternativeRow));
 }
 
@@ -126,11 +164,35 @@ function show() {
   const meaning = explained(range, options);
   const second = other.value === '' ? undefined : explained(other, options);
   if (other.value === '') showProblem(other, []);
-  showMeaning(range.value, meaning, options);
+  showMeaning(range.value, versionOf(at('version')), meaning, options);
   showComparison(range.value, other.value, [meaning, second], options);
   const rows = [...rowsOf(meaning, 'first'), ...rowsOf(second, 'second')];
   at('line').replaceChildren(...(rows.length ? [numberLine(rows, describe(rows))] : []));
 }
 
-for (const event of ['input', 'change']) document.querySelector('form').addEventListener(event, show);
-show();
+// ---- the address, whose fragment has what is typed, so that a link shows it
+
+const FIELDS = ['range', 'version', 'other', 'grammar'];
+const DEFAULTS = new Map(FIELDS.map((id) => [id, at(id).value]));
+
+function readAddress() {
+  const typed = new URLSearchParams(location.hash.slice(1));
+  for (const [id, value] of DEFAULTS) at(id).value = typed.get(id) ?? value;
+  at('pre-releases').checked = typed.has('pre-releases');
+  show();
+}
+
+function writeAddress() {
+  const typed = new URLSearchParams(FIELDS.map((id) => [id, at(id).value]).filter(([id, value]) => value !== DEFAULTS.get(id)));
+  if (at('pre-releases').checked) typed.set('pre-releases', 'all');
+  history.replaceState(null, '', `#${typed}`);
+}
+
+for (const event of ['input', 'change']) {
+  document.querySelector('form').addEventListener(event, () => {
+    show();
+    writeAddress();
+  });
+}
+addEventListener('hashchange', readAddress);
+readAddress();

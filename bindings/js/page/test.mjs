@@ -90,6 +90,39 @@ async function mistakes() {
   assert.equal(await browser.evaluate(`document.getElementById('range').value`), '1 || 😀 ||1..2');
 }
 
+async function version() {
+  await type('range', '>=1.2 <2 || 3.x');
+  await type('version', 'v1.3.0');
+  assert.equal((await pairs('summary'))['Matches 1.3.0'], 'yes: >=1.2 <2');
+  await type('version', '2.0.0');
+  assert.equal((await pairs('summary'))['Matches 2.0.0'], 'no: >=1.2 <2: not <2.0.0; 3.x: not >=3.0.0');
+  await type('version', '3.1.0-rc.1');
+  assert.equal((await pairs('summary'))['Matches 3.1.0-rc.1'], 'no: >=1.2 <2: not <2.0.0; 3.x: a pre-release, and no bound is one of 3.1.0');
+  await type('version', '1.2');
+  assert.match(await text('#version-problem'), /Character 4: /);
+  assert.match(await text('#version-problem pre'), /^1\.2\n {3}\^$/);
+  assert.deepEqual(Object.keys(await pairs('summary')), ['Canonical form', 'Lowest version']);
+  await type('version', '');
+  assert.equal(await text('#version-problem'), '');
+}
+
+/** What is typed stands in the address, and a link with it shows the same. */
+async function address() {
+  await type('range', '^1 || 2 & 3');
+  await type('version', '1.3.0-é');
+  await choose('grammar', 'npm');
+  const hash = await browser.evaluate('location.hash');
+  assert.deepEqual([...new URLSearchParams(hash.slice(1))], [['range', '^1 || 2 & 3'], ['version', '1.3.0-é']]);
+  await browser.evaluate(`location.hash = '#range=%5E2&version=2.1.0-a&grammar=strict&pre-releases=all'`);
+  await browser.evaluate('new Promise((resolve) => setTimeout(resolve, 50))');
+  assert.equal((await pairs('summary'))['Matches 2.1.0-a'], 'yes: ^2');
+  assert.equal(await browser.evaluate(`document.getElementById('grammar').value`), 'strict');
+  await browser.evaluate(`location.hash = ''`);
+  await browser.evaluate('new Promise((resolve) => setTimeout(resolve, 50))');
+  assert.equal((await pairs('summary'))['Canonical form'], '^1.2.0 || 3');
+  assert.equal(await browser.evaluate(`document.getElementById('version').value`), '');
+}
+
 async function comparison() {
   await type('range', '>=1.3');
   assert.equal(await isHidden('comparison'), true);
@@ -129,14 +162,15 @@ async function accessibility() {
   await type('other', '^1');
   await browser.evaluate(`document.getElementById('range').focus()`);
   const visited = [];
-  for (let i = 0; i < 4; i++) {
+  for (let i = 0; i < 5; i++) {
     visited.push(await browser.evaluate('document.activeElement.id'));
     await browser.press('Tab');
   }
-  assert.deepEqual(visited, ['range', 'other', 'grammar', 'pre-releases']);
+  assert.deepEqual(visited, ['range', 'version', 'other', 'grammar', 'pre-releases']);
   const nodes = await browser.accessible();
   const has = (role, name) => assert.ok(nodes.some((it) => it[0] === role && name.test(it[1])), `${role} ${name}`);
   has('textbox', /^Range$/);
+  has('textbox', /^Version$/);
   has('textbox', /^Compare with$/);
   has('combobox', /^Grammar$/);
   has('checkbox', /^every pre-release/);
@@ -153,7 +187,7 @@ async function pictures() {
   await browser.colors('dark');
   await shot('dark.png');
   await browser.colors('light');
-  await browser.size(380, 900);
+  await browser.size(320, 900);
   const isNarrow = await browser.evaluate('document.documentElement.scrollWidth <= innerWidth');
   await shot('narrow.png');
   assert.ok(isNarrow, 'the page is wider than a phone');
@@ -194,7 +228,7 @@ async function interrupted() {
 
 try {
   assert.deepEqual(browser.errors, []);
-  for (const part of [meaning, mistakes, comparison, options, accessibility, pictures]) await part();
+  for (const part of [meaning, mistakes, version, address, comparison, options, accessibility, pictures]) await part();
   assert.deepEqual(browser.errors, []);
   assert.deepEqual(browser.requests.filter((url) => !url.startsWith('file:') && !url.startsWith('data:')), []);
   console.log('The page answers in a browser, without a request to the network');
