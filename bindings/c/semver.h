@@ -1,3 +1,4 @@
+/* SPDX-License-Identifier: MIT */
 /* deno_semver, proved: its calls from C.
  *
  * A text is bytes in UTF-8 and a length; no call looks for a 0 byte behind it, or writes one. For every call:

@@ -1,3 +1,4 @@
+-- SPDX-License-Identifier: MIT
 \echo Use "CREATE EXTENSION deno_semver" to load this file. \quit
 
 -- ---- versions

@@ -1,3 +1,4 @@
+/* SPDX-License-Identifier: MIT */
 /* semver_matches: whether a version, also one that is text, matches a range, by any grammar. */
 #include "deno_semver.h"
 

@@ -1,3 +1,4 @@
+/* SPDX-License-Identifier: MIT */
 /* What the planner is told of `version <@ range`: between which bounds an index is scanned. */
 #include "deno_semver.h"
 

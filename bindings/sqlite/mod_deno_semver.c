@@ -1,3 +1,4 @@
+/* SPDX-License-Identifier: MIT */
 /* An extension of SQLite: versions and ranges of npm and JSR packages in SQL. README.md says what each function does. */
 #include <semver.h>
 #include <sqlite3ext.h>
