@@ -31,7 +31,13 @@ const RELEASE_TYPES = ['major', 'minor', 'patch', 'premajor', 'preminor', 'prepa
 const IDENTIFIERS = [undefined, undefined, '', 'a', 'beta', 'rc', '1', 'a.1', 'a b'];
 const BASES = [undefined, '0', '1', false];
 
+const COERCE_OPTIONS = [undefined, { rtl: true }, { includePrerelease: true }, { rtl: true, includePrerelease: true }];
+const PARTS = ['1', '2', '10', '01', '0', '.', '.', '.', '-', '+', 'a', 'rc', 'v', ' ', '1234567890123456', '12345678901234567', '-rc.1', '+b.2', '/'];
+
 const options = () => texts.pick(OPTIONS);
+
+/** A string that may contain versions. */
+const containing = () => Array.from({ length: 1 + texts.below(9) }, () => texts.pick(PARTS)).join('');
 
 /** Ranges as they are usually written, and sometimes odd ones. */
 const range = () => (texts.below(10) ? texts.range() : texts.odd());
@@ -111,6 +117,10 @@ function whyIncDiffers([item, type, its, identifier, base]) {
   return whyTextsDiffer([item]);
 }
 
+function whyCoerceDiffers([text, its]) {
+  return IS_OLD && its?.includePrerelease ? 'pre-releases of a string' : whyTextsDiffer([text]);
+}
+
 function whyDiffDiffers([one, other]) {
   const [low, high] = [one, other].map((item) => semver.parse(item)).sort((a, b) => a && b && a.compare(b));
   const isToRelease = low?.prerelease.length && high && !high.prerelease.length;
@@ -159,6 +169,7 @@ const CALLS = {
   cmp: [() => [version(), texts.pick(OPERATORS), version(), options()]],
   inc: [() => [version(), texts.pick(RELEASE_TYPES), options(), texts.pick(IDENTIFIERS), texts.pick(BASES)], whyIncDiffers],
   diff: [() => [version(), version()], whyDiffDiffers],
+  coerce: [() => [containing(), texts.pick(COERCE_OPTIONS)], whyCoerceDiffers],
   sort: [() => [versions(), options()]],
   rsort: [() => [versions(), options()]],
 };

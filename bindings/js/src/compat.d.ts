@@ -20,9 +20,6 @@ type Loose = boolean | Options | null | undefined;
 /** Which operator {@link cmp} applies. */
 export type Operator = '===' | '!==' | '' | '=' | '==' | '!=' | '>' | '>=' | '<' | '<=';
 
-/** What node-semver has and this module doesn't. */
-export class UnsupportedError extends Error {}
-
 /** A version. */
 export class SemVer {
   /**
@@ -215,8 +212,14 @@ export function inc(version: string | SemVer, type: Step, options?: Loose, ident
 export function inc(version: string | SemVer, type: Step, identifier?: string, base?: IdentifierBase): string | null;
 /** Of which kind the step between two versions is; null if they have the same precedence. */
 export function diff(one: string | SemVer, other: string | SemVer): ReleaseType | null;
-/** Left out: throws {@link UnsupportedError}. */
-export function coerce(...arguments_: unknown[]): never;
+/** The options of {@link coerce}, which with `includePrerelease` takes a pre-release and a build, too. */
+export interface CoerceOptions extends Options {
+  /** Whether the last version is taken, and not the first one. */
+  readonly rtl?: boolean | undefined;
+}
+
+/** The first version that a string contains, one to three numbers with `.` between them; null where there is none. */
+export function coerce(version: string | number | SemVer | null | undefined, options?: CoerceOptions | boolean): SemVer | null;
 
 /** All of it, for `import semver from 'deno-semver/compat'`. */
 declare const all: Omit<typeof import('./compat.js'), 'default'>;

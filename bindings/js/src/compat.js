@@ -1,6 +1,6 @@
 // node-semver's names. NODE_SEMVER.md says where the answers differ.
 
-import { UnsupportedError, coerce } from './compat/coerce.js';
+import { coerce } from './compat/coerce.js';
 import { Comparator } from './compat/comparator.js';
 import { Range } from './compat/range.js';
 import {
@@ -15,7 +15,7 @@ import {
 export const SEMVER_SPEC_VERSION = '2.0.0';
 export const RELEASE_TYPES = ['major', 'premajor', 'minor', 'preminor', 'patch', 'prepatch', 'prerelease'];
 
-export { UnsupportedError, coerce } from './compat/coerce.js';
+export { coerce } from './compat/coerce.js';
 export { Comparator } from './compat/comparator.js';
 export { Range } from './compat/range.js';
 export {
@@ -28,8 +28,8 @@ export {
 } from './compat/versions.js';
 
 export default {
-  Comparator, RELEASE_TYPES, Range, SEMVER_SPEC_VERSION, SemVer, UnsupportedError, clean, cmp, coerce, compare, compareBuild,
-  compareIdentifiers, compareLoose, diff, eq, gt, gte, gtr, inc, intersects, lt, lte, ltr, major, maxSatisfying, minSatisfying,
-  minVersion, minor, neq, outside, parse, patch, prerelease, rcompare, rcompareIdentifiers, rsort, satisfies, simplifyRange, sort,
-  subset, toComparators, valid, validRange,
+  Comparator, RELEASE_TYPES, Range, SEMVER_SPEC_VERSION, SemVer, clean, cmp, coerce, compare, compareBuild, compareIdentifiers,
+  compareLoose, diff, eq, gt, gte, gtr, inc, intersects, lt, lte, ltr, major, maxSatisfying, minSatisfying, minVersion, minor, neq,
+  outside, parse, patch, prerelease, rcompare, rcompareIdentifiers, rsort, satisfies, simplifyRange, sort, subset, toComparators,
+  valid, validRange,
 };

@@ -9,14 +9,26 @@ import compat from '../out/package/compat.js';
 
 const require = createRequire(import.meta.url);
 const common = require('../out/package/compat.cjs');
-const { Range, SemVer, UnsupportedError } = compat;
+const { Range, SemVer } = compat;
 const INTERNAL = ['re', 'src', 'tokens'];
 const SUB_PATHS = ['classes', 'functions', 'ranges'].flatMap((kind) => readdirSync(new URL(`../out/package/compat/${kind}`, import.meta.url))
   .filter((name) => name.endsWith('.cjs')).map((name) => `${kind}/${name.slice(0, -'.cjs'.length)}`));
 const installed = (process.env.NODE_SEMVERS ?? '').split(':').filter((folder) => folder && existsSync(folder));
 
-test('what is left out throws, and names the page', () => {
-  assert.throws(() => compat.coerce('1'), (error) => error instanceof UnsupportedError && error.message.includes('NODE_SEMVER.md'));
+test('coerce finds the version that a string contains', () => {
+  const shown = (version, options) => compat.coerce(version, options)?.version ?? null;
+  assert.equal(shown('v2'), '2.0.0');
+  assert.equal(shown('node-18.20.4-linux'), '18.20.4');
+  assert.equal(shown('1.2.3.4'), '1.2.3');
+  assert.equal(shown('1.2.3.4', { rtl: true }), '2.3.4');
+  assert.equal(shown('1.2.3-rc.1+b'), '1.2.3');
+  assert.equal(shown('1.2.3-rc.1+b', { includePrerelease: true }), '1.2.3-rc.1');
+  assert.equal(shown('a 1-b 2-c', { includePrerelease: true, rtl: true }), '2.0.0-c');
+  assert.equal(shown('12345678901234567.1'), '1.0.0');
+  assert.equal(shown(4.5), '4.5.0');
+  const held = new SemVer('1.2.3');
+  assert.equal(compat.coerce(held), held);
+  for (const nothing of ['', 'latest', '01.02', null, undefined, {}, [1]]) assert.equal(compat.coerce(nothing), null);
 });
 
 test('invalid texts are null or false where they are in node-semver, and else throw TypeError', () => {

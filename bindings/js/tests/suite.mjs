@@ -18,8 +18,8 @@ const { version } = JSON.parse(readFileSync(join(source, 'package.json')));
 
 const FOLDERS = ['.', 'classes', 'functions', 'ranges', 'integration', 'internal'];
 
-/** Tests of what this package hasn't, by their paths: node-semver's layout, its modules of its own, and `coerce`. */
-const LEFT_OUT = /^(map|preload|internal[/](?!identifiers)[\w-]+|functions[/]coerce)[.]js$/;
+/** Tests of what this package hasn't, by their paths: node-semver's layout, and its modules of its own. */
+const LEFT_OUT = /^(map|preload|internal[/](?!identifiers)[\w-]+)[.]js$/;
 
 const failed = [];
 let passed = 0;

@@ -1,15 +1,33 @@
-// What node-semver has and this module doesn't.
+// The version that a string contains.
 
-export class UnsupportedError extends Error {
-  constructor(what) {
-    super(`${what} isn't supported: see NODE_SEMVER.md, "Left out"`);
-  }
+import { optionsOf } from './options.js';
+import { SemVer } from './semver.js';
+import { parse } from './versions.js';
 
-  get name() {
-    return 'UnsupportedError';
+const NUMBERS = String.raw`(\d{1,16})(?:\.(\d{1,16}))?(?:\.(\d{1,16}))?`;
+const IDENTIFIER = String.raw`(?:0|[1-9]\d*|\d*[a-zA-Z-][a-zA-Z\d-]*)`;
+const QUALIFIER = String.raw`(-${IDENTIFIER}(?:\.${IDENTIFIER})*)?(\+[a-zA-Z\d-]+(?:\.[a-zA-Z\d-]+)*)?`;
+// No digit stands before or behind a run. The lookahead takes no text, so that runs within others are found.
+const RUN = new RegExp(String.raw`(?<!\d)(?=(${NUMBERS})(?!\d))`, 'g');
+const QUALIFIED_RUN = new RegExp(String.raw`(?<!\d)(?=(${NUMBERS}${QUALIFIER})(?!\d))`, 'g');
+
+/** The first run of one to three numbers, or the last one; of those that end together, the longest. */
+function runIn(text, { rtl, includePrerelease }) {
+  let found;
+  let end = -1;
+  for (const run of text.matchAll(includePrerelease ? QUALIFIED_RUN : RUN)) {
+    const endsAt = run.index + run[1].length;
+    if (endsAt > end) [found, end] = [run, endsAt];
+    if (!rtl) break;
   }
+  return found;
 }
 
-export function coerce() {
-  throw new UnsupportedError('coerce()');
+export function coerce(version, options) {
+  if (version instanceof SemVer) return version;
+  const text = typeof version === 'number' ? String(version) : version;
+  const run = typeof text === 'string' ? runIn(text, optionsOf(options)) : undefined;
+  if (run === undefined) return null;
+  const [, , major, minor = '0', patch = '0', pre = '', build = ''] = run;
+  return parse(`${major}.${minor}.${patch}${pre}${build}`, options);
 }
