@@ -65,7 +65,7 @@ ALTERNATIVES, MOMENT = 3_200, 1
 # What is printed of the range `1`, and of the line `^1..2`.
 ONE_EXPLAINED = (
     '{"alternatives":[{"end":{"inclusive":false,"version":"2.0.0"},"lowest":"1.0.0","pre-releases":[],'
-    '"start":{"inclusive":true,"version":"1.0.0"},"text":"1"}],"normal":"1"}\n'
+    '"start":{"inclusive":true,"version":"1.0.0"},"text":"1"}],"canonical":"1"}\n'
 )
 ONE_CHECKED = '-:{}:1: error: "^1..2": not a version range\n  | ^1..2\n  |    ^ expected a number or a wildcard\n'
 
@@ -146,7 +146,7 @@ def run(program, row, seconds=60):
     """What the program writes, and its status. Where a file has a mode, root runs the program as nobody, and a copy of it."""
     streams = {name: stream(row, name) for name in ("stdin", "stdout", "stderr")}
     given = as_bytes(row.get("stdin", ""))
-    env = {name: held for name, held in os.environ.items() if name != "NO_COLOR"} | row.get("env", {})
+    env = {name: held for name, held in os.environ.items() if name not in ("NO_COLOR", "TERM")} | row.get("env", {})
     with room_of(row.get("files")) as room:
         words, options = [*COMMAND, str(program)], {"cwd": room, "env": env, "preexec_fn": prepare}
         if os.geteuid() == 0 and any(isinstance(it, dict) for it in row.get("files", {}).values()):
@@ -277,7 +277,7 @@ def plenty():
         range_there = [] if command == "sort" else ["1"]
         yield ask("ranges", [command, *range_there, *versions], "", (answer, "", 0))
         yield ask("ranges", [command, *range_there], lines, (answer, "", 0))
-    yield ask("ranges", ["filter", "1", *["-r=1"] * PLENTY], "1.0.0\n", ("1.0.0\n", "", 0))
+    yield ask("ranges", ["filter", "1", *["--range=1"] * PLENTY], "1.0.0\n", ("1.0.0\n", "", 0))
     yield ask("ranges", ["sort"], "[" + ",".join(['"1.0.0"'] * PLENTY) + "]", (lines, "", 0))
 
 

@@ -3,7 +3,7 @@
 use crate::advice::{bound_of_pre_releases, warnings};
 use crate::errors::{errors_at_end, errors_of};
 use crate::explaining::has_left_out;
-use crate::findings::{Cause, Finding, Format, Position, Report};
+use crate::findings::{Cause, Finding, Position, Report};
 use crate::rules::{Levels, Rule};
 use crate::walking::{Manifests, manifests_here, manifests_in};
 use answers::asking::{Answer, Problem};
@@ -84,9 +84,8 @@ fn compare_with_npm<O: Write, E: Write>(
             report_left_out(console, report, entry, range, read.dropped.is_some())?;
         }
         Some(dropped) => {
-            let message = format!(in console.alloc; "npm leaves out `{dropped}`: `,` isn't read")?;
-            let finding = Finding::by(Rule::DroppedAlternative, message.as_str());
-            report.add(console, entry, finding)?;
+            let message = format!(in console.alloc; "npm leaves out `{dropped}`: `,` isn't read");
+            report.tell(console, entry, Rule::DroppedAlternative, message)?;
         }
         None => (),
     }
@@ -178,32 +177,20 @@ fn warn<O: Write, E: Write>(
     if let Some((word, read)) = number_behind_wildcard(range)
         && entry.kind != Kind::Specifier
     {
-        let message = format!(in alloc; "npm reads `{word}` as `{read}`")?;
-        report.add(
-            console,
-            entry,
-            Finding::by(Rule::NpmDiffers, message.as_str()),
-        )?;
+        let message = format!(in alloc; "npm reads `{word}` as `{read}`");
+        report.tell(console, entry, Rule::NpmDiffers, message)?;
     }
     let warnings = warnings(alloc, pieces)?;
     for (rule, warning) in warnings.iter() {
         report.add(console, entry, Finding::by(*rule, warning.as_str()))?;
     }
     if let Some(piece) = bound_of_pre_releases(pieces) {
-        let message = format!(in alloc; "a bound of `{piece}` is a pre-release")?;
-        report.add(
-            console,
-            entry,
-            Finding::by(Rule::PreReleaseBound, message.as_str()),
-        )?;
+        let message = format!(in alloc; "a bound of `{piece}` is a pre-release");
+        report.tell(console, entry, Rule::PreReleaseBound, message)?;
     }
     if range.trim() != normal {
-        let message = format!(in alloc; "the canonical form is `{normal}`")?;
-        report.add(
-            console,
-            entry,
-            Finding::by(Rule::NotCanonical, message.as_str()),
-        )?;
+        let message = format!(in alloc; "the canonical form is `{normal}`");
+        report.tell(console, entry, Rule::NotCanonical, message)?;
     }
     Ok(())
 }
@@ -331,11 +318,8 @@ fn check_specifier<O: Write, E: Write>(
         }
         Err(Problem::Invalid(invalid)) => {
             let errors = errors_of(console.alloc, Flavour::Specifier, text, &invalid)?;
-            let finding = Finding {
-                errors: Some(&errors),
-                ..Finding::new(Cause::Refused, invalid.failure.message())
-            };
-            report.add(console, entry, finding)
+            let message = invalid.failure.message();
+            report.add_with(console, entry, Cause::Refused, message, &errors)
         }
         Err(Problem::OutOfMemory) => Err(Stop::OutOfMemory),
     }
@@ -420,9 +404,8 @@ fn check_sections<O: Write, E: Write>(
         let section = other.section;
         let message = format!(in console.alloc;
             "no version matches `{other_range}` of {section} as well"
-        )?;
-        let finding = Finding::by(Rule::DisjointSections, message.as_str());
-        return report.add(console, entry, finding);
+        );
+        return report.tell(console, entry, Rule::DisjointSections, message);
     }
     Ok(())
 }
@@ -660,33 +643,12 @@ pub fn check<R: Runtime + AllocGlobal, O: Write, E: Write>(
 ) -> Result<Status, Stop> {
     let settings = matches.get_strs("rule").unwrap_or(&[]);
     try_settings(console, settings)?;
-    let format = if matches.get_flag("json") {
-        Format::Json
-    } else if matches.get_flag("github") {
-        Format::GitHub
-    } else {
-        Format::Lines
-    };
-    let report = Report {
-        format,
-        canonical: matches.get_flag("canonical"),
-        levels: Levels::new(),
-        file: "-",
-        position: Position::START,
-        status: Status::Answered,
-        warning: if matches.get_flag("strict") {
-            Status::Found
-        } else {
-            Status::Answered
-        },
-    };
     let Manifests { paths, mut status } = paths(rt, console, matches.get_strs("FILE"))?;
+    let report = Report::new(matches);
     for path in paths.iter() {
         let checked = check_file(rt, console, &report, path.as_str(), settings)?;
         status = status.worse(checked);
     }
-    if format == Format::Json {
-        console.end_items()?;
-    }
+    report.format.end(console)?;
     Ok(status)
 }

@@ -9,11 +9,12 @@ use answers::reading::{range, ranges};
 use clap::ArgMatches;
 use deno_semver::Version;
 use semver_req::common::values::Flavour;
-use serde_json::Value;
+use serde_json::{Value, put};
 use std::alloc::{AllocError, Global};
 use std::cmp::Ordering;
 use std::io::Write;
 use terminal::console::{Console, Status, Stop, print_line};
+use terminal::input::read_ranges;
 use terminal::shown::{Quoted, Shown};
 
 /// Reports which of the arguments is invalid, and where, or that memory ran out.
@@ -57,6 +58,34 @@ pub fn reject<O: Write, E: Write>(
     Ok(status)
 }
 
+// What the crates below name in another way in their JSON, and its name here.
+const NAMES: [(&str, &str); 2] = [("normal", "canonical"), ("requirement", "range")];
+
+// Gives the members of an object this program's names.
+fn rename(alloc: Global, json: &mut Value) -> Result<(), AllocError> {
+    if let Value::Object(members) = json {
+        for (old, new) in &NAMES {
+            if let Some(value) = members.remove(*old) {
+                put(members, alloc, new, value)?;
+            }
+        }
+    }
+    Ok(())
+}
+
+/// Prints JSON of the crates below under this program's names.
+pub fn print_json<O: Write, E: Write>(
+    console: &mut Console<O, E>,
+    json: Result<Value, AllocError>,
+) -> Result<(), Stop> {
+    let mut json = json?;
+    rename(console.alloc, &mut json)?;
+    if let Some(package) = json.get_mut("package") {
+        rename(console.alloc, package)?;
+    }
+    console.json(Ok(json))
+}
+
 /// Prints the tag that a range is.
 pub fn print_tag<O: Write, E: Write>(
     console: &mut Console<O, E>,
@@ -71,18 +100,19 @@ pub fn print_tag<O: Write, E: Write>(
     Ok(Status::Tag)
 }
 
-/// Prints the version, or that there is none.
-pub fn print_version<O: Write, E: Write>(
+/// Prints an answer, in JSON under this name, or that there is none.
+pub fn print_answer<O: Write, E: Write>(
     console: &mut Console<O, E>,
-    version: Option<&str>,
+    name: &str,
+    answer: Option<&str>,
 ) -> Result<Status, Stop> {
     if console.options.json {
-        console.json(field_json(console.alloc, "version", version))?;
+        console.json(field_json(console.alloc, name, answer))?;
     } else {
-        let (version, end) = (version.unwrap_or("none"), console.options.line_end());
-        write!(console.out, "{version}{end}")?;
+        let (text, end) = (answer.unwrap_or("none"), console.options.line_end());
+        write!(console.out, "{text}{end}")?;
     }
-    Ok(Status::of(version.is_some()))
+    Ok(Status::of(answer.is_some()))
 }
 
 // The JSON of one field.
@@ -113,7 +143,7 @@ pub fn common<O: Write, E: Write>(
     let options = console.options;
     let answer = common_version(console.alloc, options.flavour, options.pre_release, texts);
     let lowest = lowest_text(console, texts, answer)?;
-    print_version(console, lowest.as_deref())
+    print_answer(console, "version", lowest.as_deref())
 }
 
 /// `ranges within NEW OLD`: `yes`, or `no` and the lowest version that only NEW allows.
@@ -162,12 +192,7 @@ pub fn compare<O: Write, E: Write>(
         Ok(Ordering::Greater) => ">",
         Err(problem) => return reject(console, &[one, other], &problem),
     };
-    if console.options.json {
-        console.json(field_json(console.alloc, "order", Some(sign)))?;
-    } else {
-        print_line(&mut console.out, sign)?;
-    }
-    Ok(Status::Answered)
+    print_answer(console, "order", Some(sign))
 }
 
 /// `ranges overlap RANGE RANGE..`: `yes` if any two ranges match a version in common, or `no` and the first two that don't.
@@ -205,29 +230,37 @@ pub fn overlap<O: Write, E: Write>(
     Ok(Status::of(apart.is_none()))
 }
 
-/// `ranges normal RANGE..`: the canonical form of each range, or its tag.
-pub fn normal<O: Write, E: Write>(
+// Prints the canonical form of a range, or its tag.
+fn print_canonical<O: Write, E: Write>(
+    console: &mut Console<O, E>,
+    text: &str,
+) -> Result<Status, Stop> {
+    let range = match range(console.alloc, console.options.flavour, 0, text) {
+        Ok(range) => range,
+        Err(problem) => return reject(console, &[text], &problem),
+    };
+    if let Some(tag) = range.tag() {
+        return print_tag(console, tag);
+    }
+    let canonical = range.to_string_normalized(console.alloc)?;
+    print_answer(console, "canonical", Some(canonical.as_str()))
+}
+
+/// `ranges canonical RANGE..`: the canonical form of each range, or its tag, and for `-` those of the lines of standard input.
+pub fn canonical<R: Input, O: Write, E: Write>(
+    rt: &R,
     console: &mut Console<O, E>,
     matches: &ArgMatches<'_>,
 ) -> Result<Status, Stop> {
     let mut status = Status::Answered;
     for text in matches.get_strs("RANGE").unwrap_or(&[]) {
-        let range = match range(console.alloc, console.options.flavour, 0, text) {
-            Ok(range) => range,
-            Err(problem) => {
-                status = status.worse(reject(console, &[*text], &problem)?);
-                continue;
-            }
-        };
-        if let Some(tag) = range.tag() {
-            status = status.worse(print_tag(console, tag)?);
+        if *text != "-" {
+            status = status.worse(print_canonical(console, text)?);
             continue;
         }
-        let normal = range.to_string_normalized(console.alloc)?;
-        if console.options.json {
-            console.json(field_json(console.alloc, "normal", Some(normal.as_str())))?;
-        } else {
-            print_line(&mut console.out, normal.as_str())?;
+        let input = read_ranges(rt, console)?;
+        for line in input.as_str().lines().filter(|line| !line.is_empty()) {
+            status = status.worse(print_canonical(console, line)?);
         }
     }
     Ok(status)

@@ -1,6 +1,6 @@
 //! `ranges explain`: what a range means.
 
-use crate::comparing::{print_tag, reject};
+use crate::comparing::{print_json, print_tag, reject};
 use answers::explained::{Explanation, Matches, Meaning, Piece, explain};
 use answers::explained_json::ranges_explained;
 use clap::ArgMatches;
@@ -8,6 +8,7 @@ use deno_semver::{PreRelease, RangeBound, Version, VersionBound, VersionBoundKin
 use std::fmt;
 use std::io::Write;
 use terminal::console::{BOUNDS, Console, END, ERROR, Status, Stop, Style, print_line};
+use terminal::input::read_ranges;
 use terminal::pointing::print_error;
 use terminal::shown::Shown;
 
@@ -146,7 +147,7 @@ fn report_pieces<O: Write, E: Write>(
     };
     if options.json {
         let json = ranges_explained(alloc, options.pre_release, pieces, normal);
-        console.json(json)?;
+        print_json(console, json)?;
     } else {
         let style = console.terminal.out;
         for piece in pieces {
@@ -168,31 +169,46 @@ fn report_pieces<O: Write, E: Write>(
     Ok(status)
 }
 
-/// `ranges explain RANGE..`: for each range the tag; or each alternative on a line, and the canonical form. The status is that of
-/// invalid arguments if an alternative is left out.
-pub fn report<O: Write, E: Write>(
+// Reports the tag that a text is, or each alternative on a line, and the canonical form.
+fn report_text<O: Write, E: Write>(
+    console: &mut Console<O, E>,
+    text: &str,
+) -> Result<Status, Stop> {
+    let (alloc, options) = (console.alloc, console.options);
+    match explain(alloc, options.flavour, options.pre_release, text) {
+        Ok(Explanation::Tag(tag)) if options.json => print_tag(console, tag.as_str()),
+        Ok(Explanation::Tag(tag)) => {
+            print_line(
+                &mut console.out,
+                format_args!("\"{tag}\": a tag, a name that a registry gives a version"),
+            )?;
+            console.question(tag.as_str());
+            Ok(Status::Tag)
+        }
+        Ok(Explanation::Ranges { pieces, normal }) => {
+            report_pieces(console, text, pieces.as_slice(), normal.as_str())
+        }
+        Err(problem) => reject(console, &[text], &problem),
+    }
+}
+
+/// `ranges explain RANGE..`: what each range means, and for `-` each line of standard input. The status is that of invalid arguments
+/// if an alternative is left out.
+pub fn report<R: Input, O: Write, E: Write>(
+    rt: &R,
     console: &mut Console<O, E>,
     matches: &ArgMatches<'_>,
 ) -> Result<Status, Stop> {
-    let (alloc, options) = (console.alloc, console.options);
     let mut status = Status::Answered;
     for text in matches.get_strs("RANGE").unwrap_or(&[]) {
-        let reported = match explain(alloc, options.flavour, options.pre_release, text) {
-            Ok(Explanation::Tag(tag)) if options.json => print_tag(console, tag.as_str())?,
-            Ok(Explanation::Tag(tag)) => {
-                print_line(
-                    &mut console.out,
-                    format_args!("\"{tag}\": a tag, a name that a registry gives a version"),
-                )?;
-                console.question(tag.as_str());
-                Status::Tag
-            }
-            Ok(Explanation::Ranges { pieces, normal }) => {
-                report_pieces(console, text, pieces.as_slice(), normal.as_str())?
-            }
-            Err(problem) => reject(console, &[*text], &problem)?,
-        };
-        status = status.worse(reported);
+        if *text != "-" {
+            status = status.worse(report_text(console, text)?);
+            continue;
+        }
+        let input = read_ranges(rt, console)?;
+        for line in input.as_str().lines().filter(|line| !line.is_empty()) {
+            status = status.worse(report_text(console, line)?);
+        }
     }
     Ok(status)
 }

@@ -3,6 +3,7 @@
 use crate::errors::{add_first, print_errors};
 use crate::rules::{Level, Levels, Rule};
 use answers::object::Object;
+use clap::ArgMatches;
 use package_answers::errors::PackageErrors;
 use semver_req::common::values::Flavour;
 use serde_json::Value;
@@ -126,6 +127,43 @@ pub struct Report<'r> {
     pub warning: Status,
 }
 
+impl Format {
+    /// Prints what stands behind all findings.
+    pub fn end<O: Write, E: Write>(self, console: &mut Console<O, E>) -> Result<(), Stop> {
+        match self {
+            Format::Lines | Format::GitHub => Ok(()),
+            Format::Json => console.end_items(),
+        }
+    }
+}
+
+impl<'r> Report<'r> {
+    /// No finding so far, by the options of `check`.
+    pub fn new(matches: &ArgMatches<'_>) -> Report<'r> {
+        let format = if matches.get_flag("json") {
+            Format::Json
+        } else if matches.get_flag("github") {
+            Format::GitHub
+        } else {
+            Format::Lines
+        };
+        let warning = if matches.get_flag("strict") {
+            Status::Found
+        } else {
+            Status::Answered
+        };
+        Report {
+            format,
+            canonical: matches.get_flag("canonical"),
+            levels: Levels::new(),
+            file: "-",
+            position: Position::START,
+            status: Status::Answered,
+            warning,
+        }
+    }
+}
+
 // A text as GitHub reads it in an annotation, where in a property `:` and `,` are escaped too.
 fn escaped(alloc: Global, text: &str, is_property: bool) -> Result<String, AllocError> {
     let mut all = String::new(alloc);
@@ -138,6 +176,15 @@ fn escaped(alloc: Global, text: &str, is_property: bool) -> Result<String, Alloc
         }
     }
     Ok(all)
+}
+
+// The grammar of an entry's range.
+fn grammar(entry: &Entry) -> Option<Flavour> {
+    match entry.kind {
+        Kind::Specifier => Some(Flavour::Specifier),
+        Kind::Version | Kind::Manager => None,
+        _ => Some(Flavour::Npm),
+    }
 }
 
 // Whether the entry's text is shown.
@@ -180,7 +227,7 @@ impl Report<'_> {
     ) -> Result<Value, AllocError> {
         let key = match weight {
             Weight::Error | Weight::Warning => "message",
-            Weight::Notice => "normal",
+            Weight::Notice => "canonical",
         };
         let text = if has_text(entry) {
             Some(entry.text.as_str())
@@ -240,6 +287,18 @@ impl Report<'_> {
         }
     }
 
+    /// Counts and prints a finding by a rule.
+    pub fn tell<O: Write, E: Write>(
+        &mut self,
+        console: &mut Console<O, E>,
+        entry: &Entry,
+        rule: Rule,
+        message: Result<String, AllocError>,
+    ) -> Result<(), Stop> {
+        let message = message?;
+        self.add(console, entry, Finding::by(rule, message.as_str()))
+    }
+
     /// Counts and prints a finding with the places of errors.
     pub fn add_with<O: Write, E: Write>(
         &mut self,
@@ -280,13 +339,8 @@ impl Report<'_> {
         print_line(&mut console.out, message.as_str())?;
         match finding.errors {
             Some(errors) => {
-                let grammar = match entry.kind {
-                    Kind::Specifier => Some(Flavour::Specifier),
-                    Kind::Version | Kind::Manager => None,
-                    _ => Some(Flavour::Npm),
-                };
                 let text = entry.text.as_str();
-                print_errors(&mut console.out, style, text, errors, grammar)
+                print_errors(&mut console.out, style, text, errors, grammar(entry))
             }
             None => Ok(()),
         }

@@ -1,6 +1,6 @@
 //! The commands over lists of versions: `filter`, `best`, `outdated`, `sort` and `key`.
 
-use crate::comparing::{print_tag, print_version, reject};
+use crate::comparing::{print_answer, print_tag, reject};
 use answers::object::Object;
 use answers::outdated::standing_of;
 use answers::reading::ranges;
@@ -151,7 +151,7 @@ pub fn best<R: Input, O: Write, E: Write>(
     };
     let mut listed = Listed::new(console.alloc, others, console.options.pre_release);
     let status = take_all(rt, console, matches.get_strs("VERSION"), &mut listed)?;
-    Ok(status.worse(print_version(console, listed.highest(first))?))
+    Ok(status.worse(print_answer(console, "version", listed.highest(first))?))
 }
 
 /// `ranges outdated RANGE [VERSION..]`: the highest version that matches, and the highest that counts. The status is 1 if the range is

@@ -46,8 +46,8 @@ fn answer<R: Runtime + AllocGlobal, O: Write, E: Write>(
         "outdated" => listed::outdated(rt, console, matches),
         "sort" => listed::sort(rt, console, matches),
         "key" => listed::key(rt, console, matches),
-        "explain" => explaining::report(console, matches),
-        "normal" => comparing::normal(console, matches),
+        "explain" => explaining::report(rt, console, matches),
+        "canonical" => comparing::canonical(rt, console, matches),
         "common" | "min" => comparing::common(console, matches),
         "within" => comparing::within(console, matches),
         "overlap" => comparing::overlap(console, matches),
@@ -78,6 +78,7 @@ fn run<R: Runtime + AllocGlobal, E: Write + Drop>(
             let Some((name, matches)) = matches.subcommand() else {
                 return Ok(Status::Usage);
             };
+            let terminal = terminal.colored(matches.get_str("color"));
             let (alloc, options) = (rt.alloc(), Options::of(matches));
             if options.quiet {
                 let mut console = Console::new(alloc, io::sink(), err, terminal, options);
@@ -108,8 +109,8 @@ fn run<R: Runtime + AllocGlobal, E: Write + Drop>(
     }
 }
 
-fn style(is_terminal: bool, no_color: bool) -> Style {
-    if is_terminal && !no_color {
+fn style(is_terminal: bool, is_plain: bool) -> Style {
+    if is_terminal && !is_plain {
         Style::Colored
     } else {
         Style::Plain
@@ -117,14 +118,13 @@ fn style(is_terminal: bool, no_color: bool) -> Style {
 }
 
 fn main(rt: HostRuntime) -> ExitCode {
-    let no_color = match env::var(&rt, "NO_COLOR") {
-        Ok(value) => !value.is_empty(),
-        Err(_) => false,
-    };
+    let has_no_color = env::var(&rt, "NO_COLOR").is_ok_and(|value| !value.is_empty());
+    let is_dumb = env::var(&rt, "TERM").is_ok_and(|value| value.as_str() == "dumb");
+    let is_plain = has_no_color || is_dumb;
     let terminal = Terminal {
         reads: rt.stdin().is_terminal(),
-        out: style(rt.stdout().is_terminal(), no_color),
-        err: style(rt.stderr().is_terminal(), no_color),
+        out: style(rt.stdout().is_terminal(), is_plain),
+        err: style(rt.stderr().is_terminal(), is_plain),
     };
     let arguments: io::Result<Vec<String>> = env::args(&rt).and_then(|arguments| {
         let arguments = arguments.collect(rt.alloc())?;

@@ -1,11 +1,11 @@
 //! `ranges package` and `ranges reference`: the parts of the text of a package.
 
-use crate::comparing::reject;
+use crate::comparing::{print_json, reject};
 use clap::ArgMatches;
 use deno_semver::jsr::normalized_export_name;
 use deno_semver::package::{PackageKind, PackageReq};
 use package_answers::packages::{package_json, read_package, scope_and_name};
-use package_answers::references::{read_reference, reference_json};
+use package_answers::references::{Reference, read_reference, reference_json};
 use std::io::Write;
 use terminal::console::{Console, Status, Stop, print_line};
 use terminal::shown::Shown;
@@ -32,7 +32,7 @@ fn print_package<O: Write, E: Write>(
     print_part(out, "canonical form", Some(normal.as_str()))
 }
 
-/// `ranges package TEXT`: the parts of a package requirement.
+/// `ranges package TEXT`: the parts of a package with a range.
 pub fn report_package<O: Write, E: Write>(
     console: &mut Console<O, E>,
     matches: &ArgMatches<'_>,
@@ -43,11 +43,27 @@ pub fn report_package<O: Write, E: Write>(
         Err(problem) => return reject(console, &[text], &problem),
     };
     if console.options.json {
-        console.json(package_json(console.alloc, &req))?;
+        let json = package_json(console.alloc, &req);
+        print_json(console, json)?;
     } else {
         print_package(console, &req)?;
     }
     Ok(Status::Answered)
+}
+
+// Prints the parts of a reference, each on a line.
+fn print_reference<O: Write, E: Write>(
+    console: &mut Console<O, E>,
+    read: &Reference,
+) -> Result<(), Stop> {
+    print_part(&mut console.out, "kind", Some(read.registry()))?;
+    print_package(console, &read.reference.req)?;
+    print_part(&mut console.out, "path", read.path())?;
+    if read.kind != PackageKind::Jsr {
+        return Ok(());
+    }
+    let export = normalized_export_name(console.alloc, read.path())?;
+    print_part(&mut console.out, "export", Some(export.as_str()))
 }
 
 /// `ranges reference TEXT`: the parts of a reference to a package.
@@ -61,15 +77,10 @@ pub fn report_reference<O: Write, E: Write>(
         Err(problem) => return reject(console, &[text], &problem),
     };
     if console.options.json {
-        console.json(reference_json(console.alloc, &read))?;
-        return Ok(Status::Answered);
-    }
-    print_part(&mut console.out, "kind", Some(read.registry()))?;
-    print_package(console, &read.reference.req)?;
-    print_part(&mut console.out, "path", read.path())?;
-    if read.kind == PackageKind::Jsr {
-        let export = normalized_export_name(console.alloc, read.path())?;
-        print_part(&mut console.out, "export", Some(export.as_str()))?;
+        let json = reference_json(console.alloc, &read);
+        print_json(console, json)?;
+    } else {
+        print_reference(console, &read)?;
     }
     Ok(Status::Answered)
 }

@@ -7,7 +7,10 @@ use std::alloc::{AllocError, Global};
 
 const VERSION: &str = "0.1.0";
 
-const GRAMMARS: [&str; 3] = ["npm", "normal", "strict"];
+// The last is an old name of the second, and not listed.
+const GRAMMARS: &[&str] = &["npm", "normalized", "strict", "normal"];
+
+const COLORS: &[&str] = &["auto", "always", "never"];
 
 const STATUSES: &str = "\
 Exit status: 0 yes, or what was asked for; 1 no or none; 2 a tag; 3 an invalid argument or line; 4 unknown arguments;
@@ -37,7 +40,7 @@ impl Options {
     /// The options among the arguments.
     pub fn of(matches: &ArgMatches<'_>) -> Options {
         let flavour = match matches.get_str("grammar") {
-            Some("normal") => Flavour::Normal,
+            Some("normalized" | "normal") => Flavour::Normal,
             Some("strict") => Flavour::Specifier,
             _ => Flavour::Npm,
         };
@@ -69,20 +72,16 @@ impl Options {
 /// How an argument is given.
 #[derive(Clone, Copy)]
 enum Form {
-    /// An option without a value, and its short name.
-    Flag(Option<char>),
-    /// The same, which doesn't go with `--json`.
-    FlagWithoutJson(Option<char>),
-    /// An option whose value is a grammar.
-    Grammar,
-    /// An option whose value is a range, any number of times.
-    MoreRanges,
-    /// An option whose value is a rule and its level, any number of times.
-    Rule,
-    /// An option whose value names two columns, which doesn't go with `--json`.
-    Columns,
-    /// A text.
-    Text,
+    /// An option without a value, its short name, and the options that it doesn't go with.
+    Flag(Option<char>, &'static [&'static str]),
+    /// An option whose value is one of these, the first where it isn't given.
+    Choice(Option<char>, &'static str, &'static [&'static str]),
+    /// An option with a value, and the options that it doesn't go with.
+    Value(&'static str, &'static [&'static str]),
+    /// An option with a value, any number of times.
+    Values(&'static str),
+    /// A text, if it must be there.
+    Text(bool),
     /// At least so many texts.
     Texts(usize),
 }
@@ -97,86 +96,86 @@ struct Argument {
 
 const JSON: Argument = Argument {
     name: "json",
-    form: Form::Flag(Some('j')),
+    form: Form::Flag(Some('j'), &[]),
     help: "Print JSON",
 };
 
 const QUIET: Argument = Argument {
     name: "quiet",
-    form: Form::FlagWithoutJson(Some('q')),
+    form: Form::Flag(Some('q'), &["json"]),
     help: "Print no result, only errors",
 };
 
 const GRAMMAR: Argument = Argument {
     name: "grammar",
-    form: Form::Grammar,
-    help: "The grammar of ranges: npm's, the normalized one, or that of package specifiers",
+    form: Form::Choice(Some('g'), "GRAMMAR", GRAMMARS),
+    help: "The grammar of ranges: npm's, the normalized one, or the strict one of package specifiers [possible values: npm, normalized, strict]",
 };
 
 const PRE: Argument = Argument {
     name: "pre",
-    form: Form::Flag(Some('p')),
+    form: Form::Flag(Some('p'), &[]),
     help: "Match every pre-release between the bounds",
 };
 
 const NULL: Argument = Argument {
     name: "null",
-    form: Form::Flag(Some('0')),
+    form: Form::Flag(Some('0'), &[]),
     help: "End lines of input and output with a NUL byte",
 };
 
 const TAGS: Argument = Argument {
     name: "tags",
-    form: Form::Flag(None),
+    form: Form::Flag(None, &[]),
     help: "Read git's tags: refs/tags/v1.2.3 is 1.2.3",
 };
 
 const SKIP_INVALID: Argument = Argument {
     name: "skip-invalid",
-    form: Form::Flag(None),
+    form: Form::Flag(None, &[]),
     help: "Pass over what isn't a version",
 };
 
 const REVERSE: Argument = Argument {
     name: "reverse",
-    form: Form::Flag(Some('r')),
+    form: Form::Flag(Some('r'), &[]),
     help: "Print the highest version first",
 };
 
 const GITHUB: Argument = Argument {
     name: "github",
-    form: Form::FlagWithoutJson(None),
+    form: Form::Flag(None, &["json"]),
     help: "Print GitHub Actions annotations",
 };
 
 const CANONICAL: Argument = Argument {
     name: "canonical",
-    form: Form::Flag(Some('c')),
+    form: Form::Flag(Some('c'), &[]),
     help: "Print every range with its canonical form",
 };
 
 const RULE: Argument = Argument {
     name: "rule",
-    form: Form::Rule,
+    form: Form::Values("NAME=LEVEL"),
     help: "Set a rule's level: off, warn or error",
 };
 
 const STRICT: Argument = Argument {
     name: "strict",
-    form: Form::Flag(None),
+    form: Form::Flag(None, &[]),
     help: "Exit with 1 on a warning",
 };
 
 const RANGE: Argument = Argument {
     name: "RANGE",
-    form: Form::Text,
+    form: Form::Text(true),
     help: "The range",
 };
 
 const RANGES: Argument = Argument {
     name: "RANGE",
     form: Form::Texts(1),
-    help: "The ranges",
+    help: "The ranges, or - for standard input, a range per line",
 };
 
 const TWO_RANGES: Argument = Argument {
@@ -187,37 +186,37 @@ const TWO_RANGES: Argument = Argument {
 
 const MORE_RANGES: Argument = Argument {
     name: "range",
-    form: Form::MoreRanges,
+    form: Form::Values("RANGE"),
     help: "Another range, which a version has to match too",
 };
 
 const WHERE: Argument = Argument {
     name: "where",
-    form: Form::Columns,
+    form: Form::Value("KEY,PRE", &["json"]),
     help: "Print a condition of SQL, by the columns of the key and of whether it is a pre-release",
 };
 
 const NEW: Argument = Argument {
     name: "NEW",
-    form: Form::Text,
+    form: Form::Text(true),
     help: "The new range",
 };
 
 const OLD: Argument = Argument {
     name: "OLD",
-    form: Form::Text,
+    form: Form::Text(true),
     help: "The old range",
 };
 
 const ONE: Argument = Argument {
     name: "ONE",
-    form: Form::Text,
+    form: Form::Text(true),
     help: "The first version",
 };
 
 const OTHER: Argument = Argument {
     name: "OTHER",
-    form: Form::Text,
+    form: Form::Text(true),
     help: "The other version",
 };
 
@@ -235,13 +234,13 @@ const FILES: Argument = Argument {
 
 const PACKAGE: Argument = Argument {
     name: "TEXT",
-    form: Form::Text,
+    form: Form::Text(true),
     help: "The package, such as @scope/name@^1.2",
 };
 
 const REFERENCE: Argument = Argument {
     name: "TEXT",
-    form: Form::Text,
+    form: Form::Text(true),
     help: "The reference, such as jsr:@scope/name@1/mod.ts",
 };
 
@@ -278,22 +277,23 @@ const MATCHING: &[Argument] = &[
     MORE_RANGES,
 ];
 
-// A command that has another name, and that name.
-const ALIAS: (&str, &str) = ("filter", "matches");
+// Commands that have another name, and that name.
+const ALIASES: [(&str, &str); 2] = [("filter", "matches"), ("canonical", "normal")];
 
-const COMMANDS: [Entry; 16] = [
-    Entry {
-        name: "check",
-        about: "Check the ranges of package.json, deno.json and import maps",
-        arguments: &[JSON, GITHUB, CANONICAL, RULE, STRICT, QUIET, FILES],
-        examples: "\
+const ON_FILES: &[Entry] = &[Entry {
+    name: "check",
+    about: "Check the ranges of package.json, deno.json and import maps",
+    arguments: &[JSON, GITHUB, CANONICAL, RULE, STRICT, QUIET, FILES],
+    examples: "\
 Examples:
   ranges check
   ranges check --rule any-zero=off --rule no-match=error packages
   ranges check --strict --canonical packages/*/package.json
 
 Exit status: 0 no error; 1 an error, or with --strict a warning; 2 unknown arguments; 3 a file can't be read.",
-    },
+}];
+
+const ON_RANGES: &[Entry] = &[
     Entry {
         name: "explain",
         about: "Explain what ranges mean",
@@ -304,18 +304,18 @@ Examples:
   ranges explain --json '^1.2.3-beta'",
     },
     Entry {
-        name: "normal",
+        name: "canonical",
         about: "Print the canonical form of ranges",
         arguments: &[JSON, GRAMMAR, RANGES],
         examples: "\
 Examples:
-  ranges normal '>=1.2 <2 || 3.x'
-  ranges normal '1.x' '~2.3.0'",
+  ranges canonical '>=1.2 <2 || 3.x'
+  ranges canonical '1.x' '~2.3.0'",
     },
     Entry {
         name: "min",
         about: "Print the lowest version that a range matches",
-        arguments: &[JSON, GRAMMAR, PRE, RANGE],
+        arguments: &[JSON, GRAMMAR, PRE, QUIET, RANGE],
         examples: "\
 Examples:
   ranges min '>1.2.3'
@@ -348,6 +348,36 @@ Examples:
   ranges overlap '^1.2' '>=1.5 <3'
   ranges overlap --quiet '^1.2' '~1.4' '1.4.x'",
     },
+    Entry {
+        name: "scans",
+        about: "Print what a range matches, as scans of an index on sort keys",
+        arguments: &[JSON, GRAMMAR, PRE, QUIET, WHERE, RANGE],
+        examples: "\
+Examples:
+  ranges scans '^1.2 || 3'
+  ranges scans --where key,pre '^1.2'",
+    },
+    Entry {
+        name: "package",
+        about: "Print the parts of a package with a range",
+        arguments: &[JSON, GRAMMAR, PACKAGE],
+        examples: "\
+Examples:
+  ranges package '@scope/name@^1.2'
+  ranges package --json react",
+    },
+    Entry {
+        name: "reference",
+        about: "Print the parts of a reference to a package",
+        arguments: &[JSON, REFERENCE],
+        examples: "\
+Examples:
+  ranges reference jsr:@scope/name@1/mod.ts
+  ranges reference --json npm:preact",
+    },
+];
+
+const ON_VERSIONS: &[Entry] = &[
     Entry {
         name: "filter",
         about: "Print the versions that match, in the order given",
@@ -413,33 +443,6 @@ Examples:
   ranges key 1.10.0 1.10.0-beta.2
   ranges key --json < versions",
     },
-    Entry {
-        name: "scans",
-        about: "Print what a range matches, as scans of an index on sort keys",
-        arguments: &[JSON, GRAMMAR, PRE, WHERE, RANGE],
-        examples: "\
-Examples:
-  ranges scans '^1.2 || 3'
-  ranges scans --where key,pre '^1.2'",
-    },
-    Entry {
-        name: "package",
-        about: "Print the parts of a package with a range",
-        arguments: &[JSON, GRAMMAR, PACKAGE],
-        examples: "\
-Examples:
-  ranges package '@scope/name@^1.2'
-  ranges package --json react",
-    },
-    Entry {
-        name: "reference",
-        about: "Print the parts of a reference to a package",
-        arguments: &[JSON, REFERENCE],
-        examples: "\
-Examples:
-  ranges reference jsr:@scope/name@1/mod.ts
-  ranges reference --json npm:preact",
-    },
 ];
 
 fn command<'a>(alloc: Global, entry: &Entry) -> Result<Command<'a>, AllocError> {
@@ -447,29 +450,28 @@ fn command<'a>(alloc: Global, entry: &Entry) -> Result<Command<'a>, AllocError> 
         .about(entry.about)
         .after_help(entry.examples)
         .version(VERSION);
-    if entry.name == ALIAS.0 {
-        command = command.visible_alias(ALIAS.1)?;
+    for alias in &ALIASES {
+        if entry.name == alias.0 {
+            command = command.visible_alias(alias.1)?;
+        }
     }
     for argument in entry.arguments {
         let arg = match argument.form {
-            Form::Flag(short) => option(alloc, argument, short).action(ArgAction::SetTrue),
-            Form::FlagWithoutJson(short) => option(alloc, argument, short)
+            Form::Flag(short, others) => option(alloc, argument, short)
                 .action(ArgAction::SetTrue)
-                .conflicts_with("json")?,
-            Form::Grammar => option(alloc, argument, Some('g'))
-                .value_name("GRAMMAR")
-                .value_parser(GRAMMARS.as_slice())
-                .default_value("npm"),
-            Form::MoreRanges => option(alloc, argument, Some('r'))
-                .value_name("RANGE")
+                .conflicts_with_all(others)?,
+            Form::Choice(short, value, values) => option(alloc, argument, short)
+                .value_name(value)
+                .value_parser(values)
+                .hide_possible_values(short.is_some())
+                .default_value(values.first().copied().unwrap_or("")),
+            Form::Value(value, others) => option(alloc, argument, None)
+                .value_name(value)
+                .conflicts_with_all(others)?,
+            Form::Values(value) => option(alloc, argument, None)
+                .value_name(value)
                 .action(ArgAction::Append),
-            Form::Rule => option(alloc, argument, None)
-                .value_name("NAME=LEVEL")
-                .action(ArgAction::Append),
-            Form::Columns => option(alloc, argument, None)
-                .value_name("KEY,PRE")
-                .conflicts_with("json")?,
-            Form::Text => Arg::new(alloc, argument.name).required(true),
+            Form::Text(required) => Arg::new(alloc, argument.name).required(required),
             Form::Texts(count) => Arg::new(alloc, argument.name)
                 .required(count > 0)
                 .num_args(count..)
@@ -480,16 +482,35 @@ fn command<'a>(alloc: Global, entry: &Entry) -> Result<Command<'a>, AllocError> 
     Ok(command)
 }
 
+// The program with these commands, too.
+fn with_commands<'a>(
+    alloc: Global,
+    mut program: Command<'a>,
+    entries: &[Entry],
+) -> Result<Command<'a>, AllocError> {
+    for entry in entries {
+        program = program.subcommand(command(alloc, entry)?)?;
+    }
+    Ok(program)
+}
+
 /// The program's commands.
 pub fn program<'a>(alloc: Global) -> Result<Command<'a>, AllocError> {
-    let mut program = Command::new(alloc, "ranges")
+    let color = Arg::new(alloc, "color")
+        .long("color")
+        .value_name("WHEN")
+        .value_parser(COLORS)
+        .default_value("auto")
+        .global(true)
+        .help("When to print colours");
+    let program = Command::new(alloc, "ranges")
         .about("Explain version ranges of npm and JSR packages, and find the versions that match")
         .after_help(STATUSES)
         .version(VERSION)
         .subcommand_required(true)
-        .arg_required_else_help(true);
-    for entry in &COMMANDS {
-        program = program.subcommand(command(alloc, entry)?)?;
-    }
-    Ok(program)
+        .arg_required_else_help(true)
+        .arg(color)?;
+    let program = with_commands(alloc, program, ON_FILES)?;
+    let program = with_commands(alloc, program, ON_RANGES)?;
+    with_commands(alloc, program, ON_VERSIONS)
 }

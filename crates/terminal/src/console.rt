@@ -178,6 +178,22 @@ pub struct Terminal {
     pub err: Style,
 }
 
+impl Terminal {
+    /// The same streams, of which all show colours for `always`, and none for `never`.
+    pub fn colored(self, when: Option<&str>) -> Terminal {
+        let style = match when {
+            Some("always") => Style::Colored,
+            Some("never") => Style::Plain,
+            _ => return self,
+        };
+        Terminal {
+            reads: self.reads,
+            out: style,
+            err: style,
+        }
+    }
+}
+
 /// Where the results and errors of a command are written, and its options.
 #[derive(Drop)]
 pub struct Console<O, E> {

@@ -5,7 +5,7 @@ use crate::manifest::unescaped;
 use crate::shown::Quoted;
 use semver_base::version::Version;
 use serde_json::Value;
-use std::io::{BufRead, BufReader, Write};
+use std::io::{BufRead, BufReader, Read, Write};
 
 // The place of a text that may be a version.
 #[derive(Clone, Copy)]
@@ -148,6 +148,19 @@ fn take_json<I: BufRead, O: Write, E: Write, T: Take>(
         status = status.worse(taken);
     }
     Ok(status)
+}
+
+/// All of standard input, a range per line.
+pub fn read_ranges<R: Input, O: Write, E: Write>(
+    rt: &R,
+    console: &mut Console<O, E>,
+) -> Result<String, Stop> {
+    console.announce("ranges");
+    let mut text = String::new(console.alloc);
+    match rt.reader().read_to_string(&mut text) {
+        Ok(_) => Ok(text),
+        Err(error) => Err(Stop::of(error, Stop::Unread)),
+    }
 }
 
 /// Takes each of the arguments, or without any and for `-` each line of standard input, or all of that if it begins with a
