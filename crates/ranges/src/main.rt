@@ -19,6 +19,7 @@ mod listed;
 mod packaged;
 mod rules;
 mod scanned;
+mod stepping;
 mod walking;
 
 use clap::ArgMatches;
@@ -52,6 +53,8 @@ fn answer<R: Runtime + AllocGlobal, O: Write, E: Write>(
         "within" => comparing::within(console, matches),
         "overlap" => comparing::overlap(console, matches),
         "compare" => comparing::compare(console, matches),
+        "increment" => stepping::increment(console, matches),
+        "difference" => stepping::difference(console, matches),
         "scans" => scanned::report(console, matches),
         "package" => packaged::report_package(console, matches),
         "reference" => packaged::report_reference(console, matches),

@@ -12,6 +12,19 @@ const GRAMMARS: &[&str] = &["npm", "normalized", "strict", "normal"];
 
 const COLORS: &[&str] = &["auto", "always", "never"];
 
+const KINDS: &[&str] = &[
+    "major",
+    "minor",
+    "patch",
+    "premajor",
+    "preminor",
+    "prepatch",
+    "prerelease",
+    "release",
+];
+
+const BASES: &[&str] = &["0", "1", "none"];
+
 const STATUSES: &str = "\
 Exit status: 0 yes, or what was asked for; 1 no or none; 2 a tag; 3 an invalid argument or line; 4 unknown arguments;
 5 out of memory; 6 input can't be read or output can't be written. check has its own (ranges check --help).";
@@ -80,6 +93,8 @@ enum Form {
     Value(&'static str, &'static [&'static str]),
     /// An option with a value, any number of times.
     Values(&'static str),
+    /// One of these texts.
+    Word(&'static [&'static str]),
     /// A text, if it must be there.
     Text(bool),
     /// At least so many texts.
@@ -218,6 +233,30 @@ const OTHER: Argument = Argument {
     name: "OTHER",
     form: Form::Text(true),
     help: "The other version",
+};
+
+const KIND: Argument = Argument {
+    name: "KIND",
+    form: Form::Word(KINDS),
+    help: "The kind of the next version",
+};
+
+const VERSION_BEFORE: Argument = Argument {
+    name: "VERSION",
+    form: Form::Text(true),
+    help: "The version that it comes after",
+};
+
+const PREID: Argument = Argument {
+    name: "preid",
+    form: Form::Value("ID", &[]),
+    help: "The identifiers with which a pre-release begins, such as beta",
+};
+
+const BASE: Argument = Argument {
+    name: "base",
+    form: Form::Choice(None, "NUMBER", BASES),
+    help: "The first number of a pre-release, or none",
 };
 
 const VERSIONS: Argument = Argument {
@@ -443,6 +482,24 @@ Examples:
   ranges key 1.10.0 1.10.0-beta.2
   ranges key --json < versions",
     },
+    Entry {
+        name: "increment",
+        about: "Print the next version of a kind",
+        arguments: &[JSON, PREID, BASE, KIND, VERSION_BEFORE],
+        examples: "\
+Examples:
+  ranges increment minor 1.2.3
+  ranges increment prerelease 1.2.3 --preid beta --base 1",
+    },
+    Entry {
+        name: "difference",
+        about: "Print the kind of the step between two versions",
+        arguments: &[JSON, QUIET, ONE, OTHER],
+        examples: "\
+Examples:
+  ranges difference 1.2.3 1.3.0
+  ranges difference --json 1.0.0-rc.1 1.0.0",
+    },
 ];
 
 fn command<'a>(alloc: Global, entry: &Entry) -> Result<Command<'a>, AllocError> {
@@ -471,6 +528,9 @@ fn command<'a>(alloc: Global, entry: &Entry) -> Result<Command<'a>, AllocError> 
             Form::Values(value) => option(alloc, argument, None)
                 .value_name(value)
                 .action(ArgAction::Append),
+            Form::Word(words) => Arg::new(alloc, argument.name)
+                .required(true)
+                .value_parser(words),
             Form::Text(required) => Arg::new(alloc, argument.name).required(required),
             Form::Texts(count) => Arg::new(alloc, argument.name)
                 .required(count > 0)

@@ -1,0 +1,61 @@
+//! `ranges increment` and `ranges difference`: the steps from one version to another.
+
+use crate::comparing::{print_answer, reject};
+use answers::steps;
+use clap::ArgMatches;
+use node_semver::identifiers::identifiers;
+use node_semver::increment::Base;
+use node_semver::release_type::ReleaseType;
+use std::io::Write;
+use terminal::console::{Console, Status, Stop};
+
+const KINDS: [ReleaseType; 8] = [
+    ReleaseType::Major,
+    ReleaseType::Minor,
+    ReleaseType::Patch,
+    ReleaseType::PreMajor,
+    ReleaseType::PreMinor,
+    ReleaseType::PrePatch,
+    ReleaseType::PreRelease,
+    ReleaseType::Release,
+];
+
+/// `ranges increment KIND VERSION`: the next version of this kind.
+pub fn increment<O: Write, E: Write>(
+    console: &mut Console<O, E>,
+    matches: &ArgMatches<'_>,
+) -> Result<Status, Stop> {
+    let name = matches.get_str("KIND").unwrap_or("");
+    let version = matches.get_str("VERSION").unwrap_or("");
+    let preid = matches.get_str("preid").unwrap_or("");
+    let base = match matches.get_str("base") {
+        Some("1") => Base::One,
+        Some("none") => Base::Nothing,
+        _ => Base::Zero,
+    };
+    let Some(kind) = KINDS.iter().copied().find(|kind| kind.name() == name) else {
+        return Ok(Status::Usage);
+    };
+    match steps::incremented(console.alloc, kind, version, preid, base) {
+        Ok(next) => print_answer(console, "version", Some(next.as_str())),
+        Err(problem) => {
+            let is_named = identifiers(console.alloc, preid).is_ok();
+            let argument = if is_named { version } else { preid };
+            reject(console, &[argument], &problem)
+        }
+    }
+}
+
+/// `ranges difference ONE OTHER`: the kind of the step between two versions, or `none` if they are equal.
+pub fn difference<O: Write, E: Write>(
+    console: &mut Console<O, E>,
+    matches: &ArgMatches<'_>,
+) -> Result<Status, Stop> {
+    let one = matches.get_str("ONE").unwrap_or("");
+    let other = matches.get_str("OTHER").unwrap_or("");
+    match steps::difference(console.alloc, one, other) {
+        Ok(Some(kind)) => print_answer(console, "difference", Some(kind.name())),
+        Ok(None) => print_answer(console, "difference", None),
+        Err(problem) => reject(console, &[one, other], &problem),
+    }
+}
