@@ -11,6 +11,7 @@ standard error and the status; absent texts are empty. A byte of arguments, inpu
 surrogateescape has it, `\\udcff` for 255. A row may also have
 
     files    an object of files by name, in a folder in which the program runs; each is a text, or an object of `text` and `mode`
+    after    what some of the files hold then, in the same form, and null for one that isn't there
     env      an object of variables for the environment
     tty      a list of `stdin`, `stdout` and `stderr`, each of which is a terminal of its own
     into     an object that says of `stdout` or `stderr` that it's `full`, so that nothing can be written, or `closed`, a pipe that nobody reads
@@ -18,7 +19,7 @@ surrogateescape has it, `\\udcff` for 255. A row may also have
 Each row runs with a stack of STACK bytes, and once more where nothing can be written. An example is what stands after
 `$ ` in a console block of a page, where `ranges` is in it, with the lines that it prints. The last line counts; the status is 1
 where something differs."""
-import contextlib, ctypes, json, os, pathlib, pty, re, resource, shutil, subprocess, sys, tempfile, termios, threading
+import contextlib, ctypes, difflib, json, os, pathlib, pty, re, resource, shutil, subprocess, sys, tempfile, termios, threading
 
 TOP = pathlib.Path(__file__).resolve().parents[2]
 HERE = pathlib.Path(__file__).resolve().parent
@@ -111,6 +112,16 @@ def room_of(files):
         yield room
 
 
+def held_in(room, after):
+    """What the files of a row hold now, each in the form that the row has it in."""
+    held = {}
+    for name, wanted in after.items():
+        path = pathlib.Path(room) / name
+        text = path.read_bytes().decode(errors="surrogateescape") if path.is_file() else None
+        held[name] = {"text": text, "mode": f"{path.stat().st_mode & 0o777:o}"} if isinstance(wanted, dict) else text
+    return held
+
+
 def terminal():
     """The two ends of a terminal that writes what it gets as it is, and echoes nothing."""
     ours, theirs = pty.openpty()
@@ -143,7 +154,8 @@ def stream(row, name):
 
 
 def run(program, row, seconds=60):
-    """What the program writes, and its status. Where a file has a mode, root runs the program as nobody, and a copy of it."""
+    """What the program writes, its status, and what files hold then, if the row says it. Where a file has a mode, root runs the program as
+    nobody, whose folder it is, and a copy of it."""
     streams = {name: stream(row, name) for name in ("stdin", "stdout", "stderr")}
     given = as_bytes(row.get("stdin", ""))
     env = {name: held for name, held in os.environ.items() if name not in ("NO_COLOR", "TERM")} | row.get("env", {})
@@ -151,6 +163,7 @@ def run(program, row, seconds=60):
         words, options = [*COMMAND, str(program)], {"cwd": room, "env": env, "preexec_fn": prepare}
         if os.geteuid() == 0 and any(isinstance(it, dict) for it in row.get("files", {}).values()):
             words[-1] = shutil.copy(program, room)
+            os.chown(room, 65534, 65534)
             options |= {"user": 65534, "group": 65534, "extra_groups": (), "preexec_fn": limit_own_stack}
         if COMMAND:
             options["preexec_fn"] = None  # an emulator needs its own stack
@@ -172,17 +185,18 @@ def run(program, row, seconds=60):
             child.kill()
             child.wait()
             raise
+        held = [held_in(room, row["after"])] if "after" in row else []
     for thread in threading.enumerate():
         if thread is not threading.current_thread():
             thread.join()
     for name in parts:
         os.close(streams[name][0])
     texts = [b"".join(parts[name]) if name in parts else text or b"" for name, text in zip(("stdout", "stderr"), written)]
-    return *(text.decode() for text in texts), child.returncode
+    return *(text.decode() for text in texts), child.returncode, *held
 
 
 def wanted_of(row):
-    return row.get("stdout", ""), row.get("stderr", ""), row["status"]
+    return row.get("stdout", ""), row.get("stderr", ""), row["status"], *([row["after"]] if "after" in row else [])
 
 
 def rows_of(name):
@@ -327,6 +341,19 @@ def examples(page):
                 yield command, printed
 
 
+def diffs():
+    """What `--dry-run` prints of files is the unified diff of what they are and of what `--fix` makes of them."""
+    for count in (1, 2, 7, 8, 20):
+        for end in ("", "\n"):
+            old = "\n".join("1.x" if line % 7 == 0 or line % 11 == 1 else "^1.2.0" for line in range(count)) + end
+            row = {"files": {"list": old}, "after": {"list": ""}}
+            new = run(RANGES, row | {"arguments": ["check", "--fix", "list"]})[3]["list"]
+            parts = difflib.unified_diff(old.splitlines(True), new.splitlines(True), "list", "list")
+            wanted = "".join(part if part.endswith("\n") else part + "\n\\ No newline at end of file\n" for part in parts)
+            found = run(RANGES, row | {"arguments": ["check", "--dry-run", "list"]})[0]
+            yield None if found == wanted and new != old else f"the diff of {old!r}: wanted {wanted!r}, found {found!r}"
+
+
 def pages():
     path = ":".join([*(str(PROGRAMS[name].parent) for name in ("ranges", "npmver")), os.environ["PATH"]])
     for name in PAGES:
@@ -380,7 +407,7 @@ def main():
     for program in PROGRAMS.values():
         if not program.is_file():
             sys.exit(f"{program} isn't built: run rt ci first")
-    checks = (rows, unwritable, unreadable, long_texts, many_ranges, plenty, questions, pages, memory, scarce, closed)
+    checks = (rows, unwritable, unreadable, long_texts, many_ranges, plenty, questions, diffs, pages, memory, scarce, closed)
     if FOLDER:
         checks = (rows,)
     outcomes = [outcome for check in checks for outcome in check()]

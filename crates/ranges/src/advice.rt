@@ -58,18 +58,12 @@ fn has_match(piece: &Piece) -> bool {
     }
 }
 
-/// The warnings about a range, given its alternatives.
-pub fn warnings(alloc: Global, pieces: &[Piece]) -> Result<Warnings, AllocError> {
-    let mut warnings = Vec::new(alloc);
-    for piece in pieces {
-        if let Some(warning) = of_piece(alloc, piece, pieces.len() == 1)? {
-            warnings.push(warning)?;
-        }
-    }
+/// The places of alternatives that another contains, each with that other's. Of two that match the same, the second is needless.
+pub fn contained(alloc: Global, pieces: &[Piece]) -> Result<Vec<(usize, usize)>, AllocError> {
+    let mut pairs = Vec::new(alloc);
     if pieces.len() > MANY {
-        return Ok(warnings);
+        return Ok(pairs);
     }
-    // Of two alternatives that match the same, the second is needless.
     for (place, piece) in pieces.iter().enumerate() {
         for (other_place, other) in pieces.iter().enumerate() {
             if place == other_place || !has_match(piece) || !has_match(other) {
@@ -78,10 +72,26 @@ pub fn warnings(alloc: Global, pieces: &[Piece]) -> Result<Warnings, AllocError>
             let is_needless = is_contained(alloc, piece, other)?
                 && (other_place < place || !is_contained(alloc, other, piece)?);
             if is_needless {
-                let (text, whole) = (piece.text.as_str().trim(), other.text.as_str().trim());
-                let warning = format!(in alloc; "`{whole}` contains `{text}`")?;
-                warnings.push((Rule::ContainedAlternative, warning))?;
+                pairs.push((place, other_place))?;
             }
+        }
+    }
+    Ok(pairs)
+}
+
+/// The warnings about a range, given its alternatives.
+pub fn warnings(alloc: Global, pieces: &[Piece]) -> Result<Warnings, AllocError> {
+    let mut warnings = Vec::new(alloc);
+    for piece in pieces {
+        if let Some(warning) = of_piece(alloc, piece, pieces.len() == 1)? {
+            warnings.push(warning)?;
+        }
+    }
+    for pair in contained(alloc, pieces)?.iter() {
+        if let (Some(piece), Some(other)) = (pieces.get(pair.0), pieces.get(pair.1)) {
+            let (text, whole) = (piece.text.as_str().trim(), other.text.as_str().trim());
+            let warning = format!(in alloc; "`{whole}` contains `{text}`")?;
+            warnings.push((Rule::ContainedAlternative, warning))?;
         }
     }
     Ok(warnings)

@@ -4,6 +4,7 @@ use crate::advice::{bound_of_pre_releases, warnings};
 use crate::errors::{errors_at_end, errors_of};
 use crate::explaining::has_left_out;
 use crate::findings::{Cause, Finding, Position, Report};
+use crate::fixing::fix;
 use crate::rules::{Levels, Rule};
 use crate::walking::{Manifests, manifests_here, manifests_in};
 use answers::asking::{Answer, Problem};
@@ -516,8 +517,8 @@ fn check_entries<O: Write, E: Write>(
     Ok(())
 }
 
-// Reads a file, or standard input for `-`; what is wrong with the file itself is reported on standard error.
-fn read_file<R: Input + Files + AllocGlobal, O: Write, E: Write>(
+/// Reads a file, or standard input for `-`; what is wrong with the file itself is reported on standard error.
+pub fn read_file<R: Input + Files + AllocGlobal, O: Write, E: Write>(
     rt: &R,
     console: &mut Console<O, E>,
     file: &str,
@@ -644,6 +645,15 @@ pub fn check<R: Runtime + AllocGlobal, O: Write, E: Write>(
     let settings = matches.get_strs("rule").unwrap_or(&[]);
     try_settings(console, settings)?;
     let Manifests { paths, mut status } = paths(rt, console, matches.get_strs("FILE"))?;
+    let is_dry = matches.get_flag("dry-run");
+    if is_dry || matches.get_flag("fix") {
+        if status == Status::Answered {
+            status = fix(rt, console, paths.as_slice(), settings, is_dry)?;
+        }
+        if is_dry || status != Status::Answered {
+            return Ok(status);
+        }
+    }
     let report = Report::new(matches);
     for path in paths.iter() {
         let checked = check_file(rt, console, &report, path.as_str(), settings)?;

@@ -181,6 +181,18 @@ const STRICT: Argument = Argument {
     help: "Exit with 1 on a warning",
 };
 
+const FIX: Argument = Argument {
+    name: "fix",
+    form: Form::Flag(None, &[]),
+    help: "Rewrite ranges to their canonical form",
+};
+
+const DRY_RUN: Argument = Argument {
+    name: "dry-run",
+    form: Form::Flag(None, &["json", "github"]),
+    help: "Print what --fix changes, as a unified diff",
+};
+
 const RANGE: Argument = Argument {
     name: "RANGE",
     form: Form::Text(true),
@@ -322,14 +334,18 @@ const ALIASES: [(&str, &str); 2] = [("filter", "matches"), ("canonical", "normal
 const ON_FILES: &[Entry] = &[Entry {
     name: "check",
     about: "Check the ranges of package.json, deno.json and import maps",
-    arguments: &[JSON, GITHUB, CANONICAL, RULE, STRICT, QUIET, FILES],
+    arguments: &[
+        JSON, GITHUB, CANONICAL, FIX, DRY_RUN, RULE, STRICT, QUIET, FILES,
+    ],
     examples: "\
 Examples:
   ranges check
   ranges check --rule any-zero=off --rule no-match=error packages
   ranges check --strict --canonical packages/*/package.json
+  ranges check --fix --dry-run
 
-Exit status: 0 no error; 1 an error, or with --strict a warning; 2 unknown arguments; 3 a file can't be read.",
+Exit status: 0 no error; 1 an error, or with --strict a warning, or --dry-run prints a change; 2 unknown arguments;
+3 a file can't be read or written.",
 }];
 
 const ON_RANGES: &[Entry] = &[
