@@ -121,14 +121,13 @@ impl<'r> Behind<'r> {
     }
 }
 
-/// The texts of the first two ranges that no version matches both of. The time grows with the number of ranges, and with its square only
+/// The places of the first two ranges that no version matches both of. The time grows with the number of ranges, and with its square only
 /// where many have several alternatives, or begin with a pre-release, and nothing in common.
-pub fn first_apart<'a>(
+pub fn first_apart(
     alloc: Global,
-    texts: &[&'a str],
     reqs: &[VersionReq],
     pre_release: PreRelease,
-) -> Result<Option<(&'a str, &'a str)>, AllocError> {
+) -> Result<Option<(usize, usize)>, AllocError> {
     if have_common_range(alloc, reqs, pre_release)? {
         return Ok(None);
     }
@@ -150,10 +149,9 @@ pub fn first_apart<'a>(
     let Some((behind, req)) = first else {
         return Ok(None);
     };
-    let text = texts.get(behind.saturating_sub(1)).copied().unwrap_or("");
-    for (other_text, other) in texts.iter().zip(reqs).skip(behind) {
+    for (place, other) in reqs.iter().enumerate().skip(behind) {
         if !have_common_version(alloc, req, other, pre_release)? {
-            return Ok(Some((text, *other_text)));
+            return Ok(Some((behind.saturating_sub(1), place)));
         }
     }
     Ok(None)

@@ -358,8 +358,8 @@ fn check_manager<O: Write, E: Write>(
     report.add(console, entry, Finding::new(Cause::Refused, message))
 }
 
-// The range of an entry that a section asks a registry for.
-fn asked_range(entry: &Entry) -> Option<&str> {
+/// The range of an entry that a section asks a registry for.
+pub fn asked_range(entry: &Entry) -> Option<&str> {
     let is_section = matches!(
         entry.section,
         "dependencies" | "devDependencies" | "optionalDependencies" | "peerDependencies"
@@ -585,8 +585,8 @@ fn try_settings<O: Write, E: Write>(
     Ok(())
 }
 
-// The paths to check: of the files, and of the manifests of folders; without any, of this folder and its workspaces.
-fn paths<R: Runtime + AllocGlobal, O: Write, E: Write>(
+/// The paths to check: of the files, and of the manifests of folders; without any, of this folder and its workspaces.
+pub fn paths<R: Runtime + AllocGlobal, O: Write, E: Write>(
     rt: &R,
     console: &mut Console<O, E>,
     files: Option<&[&str]>,

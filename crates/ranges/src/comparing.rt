@@ -203,8 +203,15 @@ pub fn overlap<O: Write, E: Write>(
     let texts = matches.get_strs("RANGE").unwrap_or(&[]);
     let options = console.options;
     let apart = match ranges(console.alloc, options.flavour, texts) {
-        Ok(ranges) => first_apart(console.alloc, texts, ranges.as_slice(), options.pre_release)?,
+        Ok(ranges) => first_apart(console.alloc, ranges.as_slice(), options.pre_release)?,
         Err(problem) => return reject(console, texts, &problem),
+    };
+    let apart = match apart {
+        Some((one, other)) => Some((
+            texts.get(one).copied().unwrap_or(""),
+            texts.get(other).copied().unwrap_or(""),
+        )),
+        None => None,
     };
     if options.json {
         let alloc = console.alloc;

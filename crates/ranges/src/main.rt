@@ -10,6 +10,7 @@
 
 mod advice;
 mod apart;
+mod asked;
 mod checking;
 mod comparing;
 mod diff;
@@ -44,6 +45,7 @@ fn answer<R: Runtime + AllocGlobal, O: Write, E: Write>(
 ) -> Result<Status, Stop> {
     let outcome = match name {
         "check" => checking::check(rt, console, matches),
+        "asked" => asked::report(rt, console, matches),
         "filter" => listed::filter(rt, console, matches),
         "best" => listed::best(rt, console, matches),
         "outdated" => listed::outdated(rt, console, matches),

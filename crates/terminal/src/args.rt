@@ -283,6 +283,12 @@ const FILES: Argument = Argument {
     help: "A package.json, deno.json or import map, a range per line, a folder, or - for standard input; without any, this folder and its workspaces",
 };
 
+const FOLDER: Argument = Argument {
+    name: "FOLDER",
+    form: Form::Text(false),
+    help: "A folder with manifests; without one, this folder and its workspaces",
+};
+
 const PACKAGE: Argument = Argument {
     name: "TEXT",
     form: Form::Text(true),
@@ -331,13 +337,14 @@ const MATCHING: &[Argument] = &[
 // Commands that have another name, and that name.
 const ALIASES: [(&str, &str); 2] = [("filter", "matches"), ("canonical", "normal")];
 
-const ON_FILES: &[Entry] = &[Entry {
-    name: "check",
-    about: "Check the ranges of package.json, deno.json and import maps",
-    arguments: &[
-        JSON, GITHUB, CANONICAL, FIX, DRY_RUN, RULE, STRICT, QUIET, FILES,
-    ],
-    examples: "\
+const ON_FILES: &[Entry] = &[
+    Entry {
+        name: "check",
+        about: "Check the ranges of package.json, deno.json and import maps",
+        arguments: &[
+            JSON, GITHUB, CANONICAL, FIX, DRY_RUN, RULE, STRICT, QUIET, FILES,
+        ],
+        examples: "\
 Examples:
   ranges check
   ranges check --rule any-zero=off --rule no-match=error packages
@@ -346,7 +353,17 @@ Examples:
 
 Exit status: 0 no error; 1 an error, or with --strict a warning, or --dry-run prints a change; 2 unknown arguments;
 3 a file can't be read or written.",
-}];
+    },
+    Entry {
+        name: "asked",
+        about: "Print what several manifests ask of the same packages",
+        arguments: &[JSON, PRE, QUIET, FOLDER],
+        examples: "\
+Examples:
+  ranges asked
+  ranges asked --json packages",
+    },
+];
 
 const ON_RANGES: &[Entry] = &[
     Entry {
