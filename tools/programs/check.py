@@ -10,7 +10,8 @@ A row of PROGRAM.jsonl is a JSON object: `arguments`, those after the program's 
 standard error and the status; absent texts are empty. A byte of arguments, input or files that isn't valid UTF-8 is written as Python's
 surrogateescape has it, `\\udcff` for 255. A row may also have
 
-    files    an object of files by name, in a folder in which the program runs; each is a text, or an object of `text` and `mode`
+    files    an object of files by name, in a folder in which the program runs; each is a text, or an object of `text` and `mode`; a folder's
+             name ends with `/`
     after    what some of the files hold then, in the same form, and null for one that isn't there
     env      an object of variables for the environment
     tty      a list of `stdin`, `stdout` and `stderr`, each of which is a terminal of its own
@@ -107,9 +108,15 @@ def room_of(files):
             path = pathlib.Path(room) / name
             held = held if isinstance(held, dict) else {"text": held}
             path.parent.mkdir(parents=True, exist_ok=True)
-            path.write_bytes(as_bytes(held["text"]))
+            if name.endswith("/"):
+                path.mkdir()
+            else:
+                path.write_bytes(as_bytes(held["text"]))
             path.chmod(int(held.get("mode", "644"), 8))
         yield room
+        for name in files:
+            if name.endswith("/"):
+                (pathlib.Path(room) / name).chmod(0o755)
 
 
 def held_in(room, after):

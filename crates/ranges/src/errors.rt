@@ -12,7 +12,7 @@ use serde_json::Value;
 use std::alloc::{AllocError, Global};
 use std::io::Write;
 use terminal::console::{Stop, Style, print_line};
-use terminal::hints::scope_hint;
+use terminal::hints::{Suggestion, hint, scope_hint};
 use terminal::pointing::{print_caret, print_error, version_errors};
 
 /// The errors of the range that ends a text.
@@ -79,6 +79,30 @@ pub fn print_errors<O: Write>(
                 _ => Ok(()),
             }
         }
+    }
+}
+
+/// Where the first error of a text is, and where what is wrong ends.
+pub fn first_place(text: &str, errors: &PackageErrors) -> Option<(usize, usize)> {
+    match errors {
+        PackageErrors::Range(errors) => {
+            let first = errors.first()?;
+            Some((first.place, first.end))
+        }
+        PackageErrors::Part(error) => Some((error.place, text.len())),
+    }
+}
+
+/// What to write in place of the first mistake in a text.
+pub fn first_hint<'a>(
+    text: &'a str,
+    errors: &PackageErrors,
+    grammar: Option<Flavour>,
+) -> Option<Suggestion<'a>> {
+    match errors {
+        PackageErrors::Range(errors) => hint(text, errors.first()?, grammar),
+        PackageErrors::Part(error) if error.missing.is_none() => scope_hint(text),
+        PackageErrors::Part(_) => None,
     }
 }
 

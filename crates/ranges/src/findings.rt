@@ -1,6 +1,6 @@
 //! What `ranges check` finds, and how it is printed.
 
-use crate::errors::{add_first, print_errors};
+use crate::errors::{add_first, first_hint, first_place, print_errors};
 use crate::rules::{Level, Levels, Rule};
 use answers::object::Object;
 use clap::ArgMatches;
@@ -12,7 +12,7 @@ use std::io::Write;
 use terminal::console::{Console, END, ERROR, Status, Stop, WARNING, print_line};
 use terminal::entry::Entry;
 use terminal::sections::Kind;
-use terminal::shown::{Quoted, Shown};
+use terminal::shown::{Quoted, Shown, part};
 
 /// How findings are printed.
 #[derive(Clone, Copy, PartialEq, Eq)]
@@ -170,6 +170,7 @@ fn escaped(alloc: Global, text: &str, is_property: bool) -> Result<String, Alloc
     for c in text.chars() {
         match c {
             '%' => all.push_str("%25")?,
+            '\n' => all.push_str("%0A")?,
             ':' if is_property => all.push_str("%3A")?,
             ',' if is_property => all.push_str("%2C")?,
             c => all.push(c)?,
@@ -202,6 +203,18 @@ fn line(alloc: Global, entry: &Entry, finding: Finding<'_>) -> Result<String, Al
         (true, true) => format!(in alloc; "{text}: {message}{ending}"),
         (false, true) => format!(in alloc; "{name}: {text}: {message}{ending}"),
     }
+}
+
+// The same, and the hint on a line of its own.
+fn lines(alloc: Global, entry: &Entry, finding: Finding<'_>) -> Result<String, AllocError> {
+    let mut all = line(alloc, entry, finding)?;
+    if let Some(errors) = finding.errors
+        && let Some(hint) = first_hint(entry.text.as_str(), errors, grammar(entry))
+    {
+        let hint = format!(in alloc; "\n{hint}")?;
+        all.push_str(hint.as_str())?;
+    }
+    Ok(all)
 }
 
 impl Report<'_> {
@@ -253,6 +266,47 @@ impl Report<'_> {
         json.into_json()
     }
 
+    // The column at which a finding begins, and the one behind its end.
+    fn columns(&self, entry: &Entry, finding: Finding<'_>) -> (usize, usize) {
+        let text = if has_text(entry) {
+            entry.text.as_str()
+        } else {
+            ""
+        };
+        let (start, end) = match finding.errors {
+            Some(errors) => first_place(text, errors).unwrap_or((0, text.len())),
+            None => (0, text.len()),
+        };
+        let column = self.column_at(text, start);
+        let end = self.column_at(text, end);
+        (column, end.max(column.saturating_add(1)))
+    }
+
+    // The column of an index of the entry's text.
+    fn column_at(&self, text: &str, index: usize) -> usize {
+        let count = part(text, 0, index).chars().count();
+        self.position.column.saturating_add(count)
+    }
+
+    // A finding as an annotation of GitHub.
+    fn annotation(
+        &self,
+        alloc: Global,
+        entry: &Entry,
+        finding: Finding<'_>,
+        weight: Weight,
+    ) -> Result<String, AllocError> {
+        let message = lines(alloc, entry, finding)?;
+        let message = escaped(alloc, message.as_str(), false)?;
+        let file = format!(in alloc; "{}", Shown(self.file))?;
+        let file = escaped(alloc, file.as_str(), true)?;
+        let (level, line) = (weight.name(), self.position.line);
+        let (column, end) = self.columns(entry, finding);
+        format!(in alloc;
+            "::{level} file={file},line={line},col={column},endColumn={end}::{message}"
+        )
+    }
+
     /// Counts a finding, unless its rule is off, and prints it: as JSON, as GitHub's annotation, or as a line.
     pub fn add<O: Write, E: Write>(
         &mut self,
@@ -272,16 +326,8 @@ impl Report<'_> {
         match self.format {
             Format::Json => console.item(self.json(console.alloc, entry, finding, weight)),
             Format::GitHub => {
-                let message = line(console.alloc, entry, finding)?;
-                let message = escaped(console.alloc, message.as_str(), false)?;
-                let file = format!(in console.alloc; "{}", Shown(self.file))?;
-                let file = escaped(console.alloc, file.as_str(), true)?;
-                let level = weight.name();
-                let Position { line, column, .. } = self.position;
-                print_line(
-                    &mut console.out,
-                    format_args!("::{level} file={file},line={line},col={column}::{message}"),
-                )
+                let text = self.annotation(console.alloc, entry, finding, weight)?;
+                print_line(&mut console.out, text.as_str())
             }
             Format::Lines => self.print(console, entry, finding, weight),
         }

@@ -43,9 +43,111 @@ fn joined(alloc: Global, folder: &str, name: &str) -> Result<String, AllocError>
     }
 }
 
-// Lists a folder, by the order of names.
-fn list<R: Runtime + AllocGlobal>(rt: &R, folder: &str) -> io::Result<Folder> {
+// ---- .gitignore
+
+// A line of a .gitignore.
+#[derive(Drop)]
+struct Ignored {
+    /// The folder in which the file is.
+    folder: String,
+    pattern: String,
+}
+
+// The path of a file or a folder below another, if it is there.
+fn below<'p>(path: &'p str, folder: &str) -> Option<&'p str> {
+    if folder.is_empty() {
+        return Some(path);
+    }
+    let rest = path.strip_prefix(folder)?;
+    if folder.ends_with('/') {
+        Some(rest)
+    } else {
+        rest.strip_prefix('/')
+    }
+}
+
+impl Ignored {
+    // Whether the line ignores this path, or takes it again; none if it says nothing of it.
+    fn answer(
+        &self,
+        alloc: Global,
+        path: &str,
+        is_folder: bool,
+    ) -> Result<Option<bool>, AllocError> {
+        let Some(path) = below(path, self.folder.as_str()) else {
+            return Ok(None);
+        };
+        let pattern = self.pattern.as_str();
+        let bare = pattern.strip_prefix('!').unwrap_or(pattern);
+        let shape = bare.strip_suffix('/').unwrap_or(bare);
+        let is_match = if shape.len() < bare.len() && !is_folder {
+            false
+        } else if shape.contains('/') {
+            let (parts, names) = (names_of(alloc, shape)?, names_of(alloc, path)?);
+            matches_path(parts.as_slice(), names.as_slice())
+        } else {
+            matches_name(shape, path.rsplit('/').next().unwrap_or(path))
+        };
+        Ok(if is_match {
+            Some(bare.len() == pattern.len())
+        } else {
+            None
+        })
+    }
+}
+
+// Whether a path is ignored: the last line that says something of it counts.
+fn is_ignored(
+    alloc: Global,
+    ignored: &[Ignored],
+    path: &str,
+    is_folder: bool,
+) -> Result<bool, AllocError> {
+    for line in ignored.iter().rev() {
+        if let Some(answer) = line.answer(alloc, path, is_folder)? {
+            return Ok(answer);
+        }
+    }
+    Ok(false)
+}
+
+// Adds the lines of a folder's .gitignore, but for comments, and for patterns with a sign that isn't read.
+fn read_ignored<R: Runtime + AllocGlobal>(
+    rt: &R,
+    folder: &str,
+    ignored: &mut Vec<Ignored>,
+) -> io::Result<()> {
     let alloc = rt.alloc();
+    let path = joined(alloc, folder, ".gitignore")?;
+    let text = match fs::read_to_string(rt, path.as_str()) {
+        Ok(text) => text,
+        Err(error) if error.kind() == ErrorKind::OutOfMemory => return Err(error),
+        Err(_) => return Ok(()),
+    };
+    for line in text.lines() {
+        let line = line.trim_end();
+        if line.is_empty() || line.starts_with('#') || line.contains(['?', '[', '\\'].as_slice()) {
+            continue;
+        }
+        let line = Ignored {
+            folder: String::from_str(alloc, folder)?,
+            pattern: String::from_str(alloc, line)?,
+        };
+        ignored.push(line)?;
+    }
+    Ok(())
+}
+
+// ---- folders
+
+// Lists a folder, by the order of names, but for what is ignored.
+fn list<R: Runtime + AllocGlobal>(
+    rt: &R,
+    folder: &str,
+    ignored: &mut Vec<Ignored>,
+) -> io::Result<Folder> {
+    let alloc = rt.alloc();
+    read_ignored(rt, folder, ignored)?;
     let mut held = Folder {
         manifests: Vec::new(alloc),
         folders: Vec::new(alloc),
@@ -59,15 +161,18 @@ fn list<R: Runtime + AllocGlobal>(rt: &R, folder: &str) -> io::Result<Folder> {
             Err(error) => return Err(error),
         };
         let name = entry.file_name();
-        let is_manifest = NAMES.contains(&name);
-        if matches!(name, "node_modules" | ".git") {
+        let is_folder = entry.file_type()?.is_dir();
+        if matches!(name, "node_modules" | ".git") || !is_folder && !NAMES.contains(&name) {
             continue;
         }
-        let is_folder = entry.file_type()?.is_dir();
+        let path = joined(alloc, folder, name)?;
+        if is_ignored(alloc, ignored.as_slice(), path.as_str(), is_folder)? {
+            continue;
+        }
         if is_folder {
-            held.folders.push(joined(alloc, folder, name)?)?;
-        } else if is_manifest {
-            held.manifests.push(joined(alloc, folder, name)?)?;
+            held.folders.push(path)?;
+        } else {
+            held.manifests.push(path)?;
         }
     }
     held.manifests.sort()?;
@@ -90,7 +195,8 @@ fn complain<O: Write, E: Write>(
     Ok(console.complain(Shown(folder), reason))
 }
 
-/// Finds the manifests in a folder and in those below it, but in none named `node_modules` or `.git`. The folder's own come first.
+/// Finds the manifests in a folder and in those below it, but in none named `node_modules` or `.git`, nor what a `.gitignore` there
+/// ignores. The folder's own come first.
 pub fn manifests_in<R: Runtime + AllocGlobal, O: Write, E: Write>(
     rt: &R,
     console: &mut Console<O, E>,
@@ -101,12 +207,13 @@ pub fn manifests_in<R: Runtime + AllocGlobal, O: Write, E: Write>(
         paths: Vec::new(alloc),
         status: Status::Answered,
     };
+    let mut ignored = Vec::new(alloc);
     let mut waiting = vec![in alloc; String::from_str(alloc, folder)?]?;
     for _ in 0..u64::MAX {
         let Some(folder) = waiting.pop() else {
             break;
         };
-        match list(rt, folder.as_str()) {
+        match list(rt, folder.as_str(), &mut ignored) {
             Ok(
                 Folder {
                     manifests,
@@ -233,7 +340,7 @@ pub fn manifests_here<R: Runtime + AllocGlobal, O: Write, E: Write>(
 ) -> Result<Manifests, Stop> {
     let alloc = console.alloc;
     let mut found = Manifests {
-        paths: match list(rt, "") {
+        paths: match list(rt, "", &mut Vec::new(alloc)) {
             Ok(Folder { manifests, .. }) => manifests,
             Err(error) => {
                 return Ok(Manifests {

@@ -46,7 +46,7 @@ const SECTIONS: [Section; 28] = [
     Section(&["catalogs", "*", "*"], Kind::Dependency, 1),
     Section(&["workspaces", "catalog", "*"], Kind::Dependency, 2),
     Section(&["workspaces", "catalogs", "*", "*"], Kind::Dependency, 2),
-    Section(&["engines", "*"], Kind::Range, 1),
+    Section(&["engines", "*"], Kind::Range, 2),
     Section(&["devEngines", "*", "version"], Kind::Range, 3),
     Section(&["devEngines", "*", "[]", "version"], Kind::Range, 4),
     Section(&["packageManager"], Kind::Manager, 1),
