@@ -348,6 +348,30 @@ def examples(page):
                 yield command, printed
 
 
+def sarif():
+    """The SARIF of a file with an error, a warning and a notice has what its schema requires, each result a rule of docs/RANGES.md."""
+    rules = re.findall(r"^### ([a-z-]+)$", (TOP / "docs/RANGES.md").read_text(), re.M)
+    given = '{\n"dependencies": {"\u00e4 b": "^1.2.3.4", "c": "^0", "d": "1"}\n}'
+    row = {"arguments": ["check", "--sarif", "--canonical", "a b.json"], "files": {"a b.json": given}}
+    log = json.loads(run(RANGES, row)[0])
+    (told,) = log["runs"]
+    driver, results = told["tool"]["driver"], told["results"]
+    places = [it["locations"][0]["physicalLocation"] for it in results]
+    regions = [tuple(place["region"][key] for key in ("startLine", "startColumn", "endColumn")) for place in places]
+    for what, found, wanted in (
+        ("version", log["version"], "2.1.0"),
+        ("columnKind", told["columnKind"], "unicodeCodePoints"),
+        ("name", driver["name"], "ranges"),
+        ("rules", sorted(it["id"] for it in driver["rules"]), sorted([*rules, "canonical", "invalid"])),
+        ("ruleId", [it["ruleId"] for it in results], ["invalid", "any-zero", "canonical", "canonical"]),
+        ("level", [it["level"] for it in results], ["error", "warning", "note", "note"]),
+        ("text", [bool(it["message"]["text"]) for it in results], [True] * 4),
+        ("uri", {it["artifactLocation"]["uri"] for it in places}, {"a%20b.json"}),
+        ("regions", regions, [(2, 32, 34), (2, 43, 45), (2, 43, 45), (2, 54, 55)]),
+    ):
+        yield None if found == wanted else f"{what} of SARIF: wanted {wanted}, found {found}"
+
+
 def diffs():
     """What `--dry-run` prints of files is the unified diff of what they are and of what `--fix` makes of them."""
     for count in (1, 2, 7, 8, 20):
@@ -414,7 +438,7 @@ def main():
     for program in PROGRAMS.values():
         if not program.is_file():
             sys.exit(f"{program} isn't built: run rt ci first")
-    checks = (rows, unwritable, unreadable, long_texts, many_ranges, plenty, questions, diffs, pages, memory, scarce, closed)
+    checks = (rows, unwritable, unreadable, long_texts, many_ranges, plenty, questions, sarif, diffs, pages, memory, scarce, closed)
     if FOLDER:
         checks = (rows,)
     outcomes = [outcome for check in checks for outcome in check()]

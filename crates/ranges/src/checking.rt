@@ -655,6 +655,7 @@ pub fn check<R: Runtime + AllocGlobal, O: Write, E: Write>(
         }
     }
     let report = Report::new(matches);
+    report.format.begin(console)?;
     for path in paths.iter() {
         let checked = check_file(rt, console, &report, path.as_str(), settings)?;
         status = status.worse(checked);

@@ -20,6 +20,7 @@ pub enum Format {
     Lines,
     Json,
     GitHub,
+    Sarif,
 }
 
 /// Why there is a finding.
@@ -128,11 +129,23 @@ pub struct Report<'r> {
 }
 
 impl Format {
+    /// Prints what stands before all findings.
+    pub fn begin<O: Write, E: Write>(self, console: &mut Console<O, E>) -> Result<(), Stop> {
+        match self {
+            Format::Sarif => Ok(write!(console.out, "{SARIF}")?),
+            Format::Lines | Format::Json | Format::GitHub => Ok(()),
+        }
+    }
+
     /// Prints what stands behind all findings.
     pub fn end<O: Write, E: Write>(self, console: &mut Console<O, E>) -> Result<(), Stop> {
         match self {
             Format::Lines | Format::GitHub => Ok(()),
             Format::Json => console.end_items(),
+            Format::Sarif => {
+                console.end_items()?;
+                print_line(&mut console.out, SARIF_END)
+            }
         }
     }
 }
@@ -144,6 +157,8 @@ impl<'r> Report<'r> {
             Format::Json
         } else if matches.get_flag("github") {
             Format::GitHub
+        } else if matches.get_flag("sarif") {
+            Format::Sarif
         } else {
             Format::Lines
         };
@@ -178,6 +193,33 @@ fn escaped(alloc: Global, text: &str, is_property: bool) -> Result<String, Alloc
     }
     Ok(all)
 }
+
+// A path as a URI.
+fn uri(alloc: Global, path: &str) -> Result<String, AllocError> {
+    let mut all = String::new(alloc);
+    for byte in path.strip_prefix("./").unwrap_or(path).bytes() {
+        if byte.is_ascii_alphanumeric() || matches!(byte, b'/' | b'.' | b'-' | b'_' | b'~') {
+            all.push(byte as char)?;
+        } else {
+            let escape = format!(in alloc; "%{byte:02X}")?;
+            all.push_str(escape.as_str())?;
+        }
+    }
+    Ok(all)
+}
+
+// SARIF up to its results, with the names of all rules.
+const SARIF: &str = "\
+{\"$schema\":\"https://json.schemastore.org/sarif-2.1.0.json\",\"version\":\"2.1.0\",\
+\"runs\":[{\"columnKind\":\"unicodeCodePoints\",\"tool\":{\"driver\":{\"name\":\"ranges\",\"rules\":[\
+{\"id\":\"any-zero\"},{\"id\":\"contained-alternative\"},{\"id\":\"disjoint-sections\"},\
+{\"id\":\"dropped-alternative\"},{\"id\":\"duplicate-key\"},{\"id\":\"empty-alternative\"},\
+{\"id\":\"ignored-comparator\"},{\"id\":\"meta-without-range\"},{\"id\":\"no-match\"},\
+{\"id\":\"not-canonical\"},{\"id\":\"npm-differs\"},{\"id\":\"odd-path\"},{\"id\":\"odd-tag\"},\
+{\"id\":\"pre-release-bound\"},{\"id\":\"canonical\"},{\"id\":\"invalid\"}]}},\"results\":";
+
+// What follows the results.
+const SARIF_END: &str = "}]}";
 
 // The grammar of an entry's range.
 fn grammar(entry: &Entry) -> Option<Flavour> {
@@ -307,6 +349,33 @@ impl Report<'_> {
         )
     }
 
+    // A finding as a result of SARIF.
+    fn sarif(
+        &self,
+        alloc: Global,
+        entry: &Entry,
+        finding: Finding<'_>,
+        weight: Weight,
+    ) -> Result<String, AllocError> {
+        let message = lines(alloc, entry, finding)?;
+        let message = Value::try_from_str(alloc, message.as_str())?.to_string(alloc)?;
+        let uri = uri(alloc, self.file)?;
+        let rule = match finding.cause {
+            Cause::Rule(rule) => rule.name(),
+            Cause::Refused => "invalid",
+            Cause::Fine => "canonical",
+        };
+        let level = match weight {
+            Weight::Notice => "note",
+            weight => weight.name(),
+        };
+        let line = self.position.line;
+        let (column, end) = self.columns(entry, finding);
+        format!(in alloc;
+            "{{\"ruleId\":\"{rule}\",\"level\":\"{level}\",\"message\":{{\"text\":{message}}},\"locations\":[{{\"physicalLocation\":{{\"artifactLocation\":{{\"uri\":\"{uri}\"}},\"region\":{{\"startLine\":{line},\"startColumn\":{column},\"endColumn\":{end}}}}}}}]}}"
+        )
+    }
+
     /// Counts a finding, unless its rule is off, and prints it: as JSON, as GitHub's annotation, or as a line.
     pub fn add<O: Write, E: Write>(
         &mut self,
@@ -328,6 +397,10 @@ impl Report<'_> {
             Format::GitHub => {
                 let text = self.annotation(console.alloc, entry, finding, weight)?;
                 print_line(&mut console.out, text.as_str())
+            }
+            Format::Sarif => {
+                let text = self.sarif(console.alloc, entry, finding, weight)?;
+                console.item_text(text.as_str())
             }
             Format::Lines => self.print(console, entry, finding, weight),
         }

@@ -181,6 +181,12 @@ const STRICT: Argument = Argument {
     help: "Exit with 1 on a warning",
 };
 
+const SARIF: Argument = Argument {
+    name: "sarif",
+    form: Form::Flag(None, &["json", "github", "quiet"]),
+    help: "Print SARIF 2.1.0",
+};
+
 const FIX: Argument = Argument {
     name: "fix",
     form: Form::Flag(None, &[]),
@@ -189,7 +195,7 @@ const FIX: Argument = Argument {
 
 const DRY_RUN: Argument = Argument {
     name: "dry-run",
-    form: Form::Flag(None, &["json", "github"]),
+    form: Form::Flag(None, &["json", "github", "sarif"]),
     help: "Print what --fix changes, as a unified diff",
 };
 
@@ -342,7 +348,7 @@ const ON_FILES: &[Entry] = &[
         name: "check",
         about: "Check the ranges of package.json, deno.json and import maps",
         arguments: &[
-            JSON, GITHUB, CANONICAL, FIX, DRY_RUN, RULE, STRICT, QUIET, FILES,
+            JSON, GITHUB, SARIF, CANONICAL, FIX, DRY_RUN, RULE, STRICT, QUIET, FILES,
         ],
         examples: "\
 Examples:

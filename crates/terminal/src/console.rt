@@ -235,6 +235,11 @@ impl<O: Write, E: Write> Console<O, E> {
     /// Prints one more item of the JSON array that the command prints.
     pub fn item(&mut self, value: Result<Value, AllocError>) -> Result<(), Stop> {
         let text = value?.to_string(self.alloc)?;
+        self.item_text(text.as_str())
+    }
+
+    /// The same for the text of JSON.
+    pub fn item_text(&mut self, text: &str) -> Result<(), Stop> {
         let separator = if self.has_items { ',' } else { '[' };
         self.has_items = true;
         Ok(write!(self.out, "{separator}{text}")?)
