@@ -2,29 +2,34 @@ _ranges() {
     local word=${COMP_WORDS[COMP_CWORD]} options=""
     COMPREPLY=()
     case ${COMP_WORDS[COMP_CWORD - 1]} in
-        --grammar) COMPREPLY=($(compgen -W "npm normal strict" -- "$word")); return ;;
+        --color) COMPREPLY=($(compgen -W "auto always never" -- "$word")); return ;;
+        --grammar) COMPREPLY=($(compgen -W "npm normalized strict" -- "$word")); return ;;
+        --base) COMPREPLY=($(compgen -W "0 1 none" -- "$word")); return ;;
     esac
     if [ "$COMP_CWORD" = 1 ]; then
-        COMPREPLY=($(compgen -W "check explain normal min common within overlap filter matches best outdated compare sort key scans package reference help --help --version" -- "$word"))
+        COMPREPLY=($(compgen -W "check asked explain canonical normal min common within overlap scans package reference filter matches best outdated compare sort key increment difference help --help --version" -- "$word"))
         return
     fi
     case ${COMP_WORDS[1]} in
-        check) options="-j --json --github -c --canonical --rule --strict -q --quiet -h --help -V --version" ;;
-        explain) options="-j --json -g --grammar -p --pre -h --help -V --version" ;;
-        normal) options="-j --json -g --grammar -h --help -V --version" ;;
-        min) options="-j --json -g --grammar -p --pre -h --help -V --version" ;;
-        common) options="-j --json -g --grammar -p --pre -q --quiet -h --help -V --version" ;;
-        within) options="-j --json -g --grammar -p --pre -q --quiet -h --help -V --version" ;;
-        overlap) options="-j --json -g --grammar -p --pre -q --quiet -h --help -V --version" ;;
-        filter|matches) options="-j --json -g --grammar -p --pre -q --quiet -0 --null --tags --skip-invalid -r --range -h --help -V --version" ;;
-        best) options="-j --json -g --grammar -p --pre -q --quiet -0 --null --tags --skip-invalid -r --range -h --help -V --version" ;;
-        outdated) options="-j --json -g --grammar -p --pre -q --quiet -0 --null --tags --skip-invalid -h --help -V --version" ;;
-        compare) options="-j --json -h --help -V --version" ;;
-        sort) options="-j --json -r --reverse -0 --null --tags --skip-invalid -h --help -V --version" ;;
-        key) options="-j --json -0 --null --tags --skip-invalid -h --help -V --version" ;;
-        scans) options="-j --json -g --grammar -p --pre --where -h --help -V --version" ;;
-        package) options="-j --json -g --grammar -h --help -V --version" ;;
-        reference) options="-j --json -h --help -V --version" ;;
+        check) options="--color -j --json --github --sarif -c --canonical --fix --dry-run --rule --strict -q --quiet -h --help -V --version" ;;
+        asked) options="--color -j --json -p --pre -q --quiet -h --help -V --version" ;;
+        explain) options="--color -j --json -g --grammar -p --pre -h --help -V --version" ;;
+        canonical|normal) options="--color -j --json -g --grammar -h --help -V --version" ;;
+        min) options="--color -j --json -g --grammar -p --pre -q --quiet -h --help -V --version" ;;
+        common) options="--color -j --json -g --grammar -p --pre -q --quiet -h --help -V --version" ;;
+        within) options="--color -j --json -g --grammar -p --pre -q --quiet -h --help -V --version" ;;
+        overlap) options="--color -j --json -g --grammar -p --pre -q --quiet -h --help -V --version" ;;
+        scans) options="--color -j --json -g --grammar -p --pre -q --quiet --where -h --help -V --version" ;;
+        package) options="--color -j --json -g --grammar -h --help -V --version" ;;
+        reference) options="--color -j --json -h --help -V --version" ;;
+        filter|matches) options="--color -j --json -g --grammar -p --pre -q --quiet -0 --null --tags --skip-invalid --range -h --help -V --version" ;;
+        best) options="--color -j --json -g --grammar -p --pre -q --quiet -0 --null --tags --skip-invalid --range -h --help -V --version" ;;
+        outdated) options="--color -j --json -g --grammar -p --pre -q --quiet -0 --null --tags --skip-invalid -h --help -V --version" ;;
+        compare) options="--color -j --json -h --help -V --version" ;;
+        sort) options="--color -j --json -r --reverse -0 --null --tags --skip-invalid -h --help -V --version" ;;
+        key) options="--color -j --json -0 --null --tags --skip-invalid -h --help -V --version" ;;
+        increment) options="--color -j --json --preid --base -h --help -V --version" ;;
+        difference) options="--color -j --json -q --quiet -h --help -V --version" ;;
     esac
     case $word in -*) COMPREPLY=($(compgen -W "$options" -- "$word")); return ;; esac
     case ${COMP_WORDS[1]} in check) COMPREPLY=($(compgen -f -- "$word")) ;; esac

@@ -22,7 +22,7 @@ use std::io::{BufRead, ErrorKind, Read, Write};
 use std::rt::{Files, Runtime};
 use terminal::console::{Console, Status, Stop};
 use terminal::entry::Entry;
-use terminal::hints::question;
+use terminal::hints::{question, url_behind};
 use terminal::manifest::entries;
 use terminal::npm::{self, Reading, Source, number_behind_wildcard, source_of};
 use terminal::pointing::version_errors;
@@ -319,7 +319,7 @@ fn check_specifier<O: Write, E: Write>(
         }
         Err(Problem::Invalid(invalid)) => {
             let errors = errors_of(console.alloc, Flavour::Specifier, text, &invalid)?;
-            let message = invalid.failure.message();
+            let message = url_behind(text).unwrap_or(invalid.failure.message());
             report.add_with(console, entry, Cause::Refused, message, &errors)
         }
         Err(Problem::OutOfMemory) => Err(Stop::OutOfMemory),

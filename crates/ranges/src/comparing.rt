@@ -14,6 +14,7 @@ use std::alloc::{AllocError, Global};
 use std::cmp::Ordering;
 use std::io::Write;
 use terminal::console::{Console, Status, Stop, print_line};
+use terminal::hints::url_behind;
 use terminal::input::read_ranges;
 use terminal::shown::{Quoted, Shown};
 
@@ -34,7 +35,7 @@ pub fn reject<O: Write, E: Write>(
         Kind::Reference => "reference",
         Kind::Step => "increment",
     };
-    let message = invalid.failure.message();
+    let message = url_behind(argument).unwrap_or(invalid.failure.message());
     let errors = errors_of(console.alloc, console.options.flavour, argument, invalid)?;
     if console.options.json {
         let error = Object::new(console.alloc)

@@ -8,6 +8,8 @@ use package_answers::packages::{package_json, read_package, scope_and_name};
 use package_answers::references::{Reference, read_reference, reference_json};
 use std::io::Write;
 use terminal::console::{Console, Status, Stop, print_line};
+use terminal::hints::url_behind;
+use terminal::npm::is_package_name;
 use terminal::shown::Shown;
 
 // Prints a part on a line, if there is one.
@@ -32,6 +34,26 @@ fn print_package<O: Write, E: Write>(
     print_part(out, "canonical form", Some(normal.as_str()))
 }
 
+// Asks what is meant, if the package's name or tag looks like a mistake.
+fn ask<O: Write, E: Write>(
+    console: &mut Console<O, E>,
+    what: &str,
+    text: &str,
+    req: &PackageReq,
+) -> Result<(), Stop> {
+    let name = req.name.as_str();
+    if let Some(says) = url_behind(text) {
+        console.ask(what, text, says);
+    } else if !is_package_name(name) {
+        let question = format!(in console.alloc; "is `{name}` a name? npm refuses it")?;
+        console.ask(what, text, question.as_str());
+    }
+    if let Some(tag) = req.version_req.tag() {
+        console.question(tag);
+    }
+    Ok(())
+}
+
 /// `ranges package TEXT`: the parts of a package with a range.
 pub fn report_package<O: Write, E: Write>(
     console: &mut Console<O, E>,
@@ -48,6 +70,7 @@ pub fn report_package<O: Write, E: Write>(
     } else {
         print_package(console, &req)?;
     }
+    ask(console, "package", text, &req)?;
     Ok(Status::Answered)
 }
 
@@ -82,5 +105,6 @@ pub fn report_reference<O: Write, E: Write>(
     } else {
         print_reference(console, &read)?;
     }
+    ask(console, "reference", text, &read.reference.req)?;
     Ok(Status::Answered)
 }

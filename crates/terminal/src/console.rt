@@ -250,11 +250,17 @@ impl<O: Write, E: Write> Console<O, E> {
         print_line(&mut self.out, if self.has_items { "]" } else { "[]" })
     }
 
-    /// Asks on standard error what is meant, if the tag looks like a typing mistake.
+    /// Asks a question about a text on standard error, behind what was printed before.
+    pub fn ask(&mut self, what: &str, text: &str, question: &str) {
+        let _ = self.out.flush();
+        let (text, question) = (Quoted(text), Shown(question));
+        let _ = writeln!(self.err, "ranges: {what} {text}: {question}");
+    }
+
+    /// Asks what is meant, if the tag looks like a typing mistake.
     pub fn question(&mut self, tag: &str) {
         if let Some(question) = question(tag) {
-            let _ = self.out.flush();
-            let _ = writeln!(self.err, "ranges: tag {}: {question}", Quoted(tag));
+            self.ask("tag", tag, question);
         }
     }
 

@@ -436,6 +436,18 @@ pub fn scope_hint(text: &str) -> Option<Suggestion<'_>> {
     }
 }
 
+/// What is wrong with a reference in which a URL stands behind `jsr:` or `npm:`.
+pub fn url_behind(reference: &str) -> Option<&'static str> {
+    let behind = reference
+        .strip_prefix("jsr:")
+        .or(reference.strip_prefix("npm:"))?;
+    if behind.starts_with("http:") || behind.starts_with("https:") {
+        Some("a URL stands in place of a name: write `jsr:@scope/name` or `npm:name`")
+    } else {
+        None
+    }
+}
+
 const LATEST: &str = "latest";
 
 // Whether the text is `latest` with one letter too many, missing, or wrong, or with two neighbours swapped.

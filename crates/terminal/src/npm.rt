@@ -45,8 +45,8 @@ fn is_url_text(text: &str) -> bool {
         .all(|c| c.is_ascii_alphanumeric() || marks.contains(&c))
 }
 
-// Whether a package may have this name.
-fn is_package_name(text: &str) -> bool {
+/// Whether npm lets a package have this name.
+pub fn is_package_name(text: &str) -> bool {
     let (scope, name) = match text.strip_prefix('@') {
         Some(scoped) => scoped.split_once('/').unwrap_or(("", "")),
         None => ("scope", text),
