@@ -1,8 +1,8 @@
 //! `ranges asked`: what several manifests ask of the same packages.
 
 use crate::apart::first_apart;
-use crate::checking::{asked_range, paths, read_file};
-use crate::walking::Manifests;
+use crate::checking::asked_range;
+use crate::walking::{Manifests, paths, read_file};
 use answers::asking::{Answer, Problem};
 use answers::object::Object;
 use answers::questions::{common_version, text_of_version};

@@ -6,7 +6,7 @@ use crate::explaining::has_left_out;
 use crate::findings::{Cause, Finding, Position, Report};
 use crate::fixing::fix;
 use crate::rules::{Levels, Rule};
-use crate::walking::{Manifests, manifests_here, manifests_in};
+use crate::walking::{Manifests, paths, read_file};
 use answers::asking::{Answer, Problem};
 use answers::explained::{Explanation, Meaning, Piece, explain};
 use answers::questions::common_version;
@@ -17,8 +17,7 @@ use package_answers::references::read_reference;
 use semver_req::common::values::Flavour;
 use std::alloc::{AllocError, Global};
 use std::collections::{HashMap, HashSet};
-use std::fs;
-use std::io::{BufRead, ErrorKind, Read, Write};
+use std::io::Write;
 use std::rt::{Files, Runtime};
 use terminal::console::{Console, Status, Stop};
 use terminal::entry::Entry;
@@ -517,34 +516,6 @@ fn check_entries<O: Write, E: Write>(
     Ok(())
 }
 
-/// Reads a file, or standard input for `-`; what is wrong with the file itself is reported on standard error.
-pub fn read_file<R: Input + Files + AllocGlobal, O: Write, E: Write>(
-    rt: &R,
-    console: &mut Console<O, E>,
-    file: &str,
-) -> Result<String, Stop> {
-    let read = if file == "-" {
-        console.announce("ranges");
-        let mut text = String::new(console.alloc);
-        rt.reader().read_to_string(&mut text).map(|_| text)
-    } else {
-        fs::read_to_string(rt, file)
-    };
-    let reason = match read {
-        Ok(text) if text.is_empty() && file == "-" => "standard input is empty",
-        Ok(text) => return Ok(text),
-        Err(error) => match error.kind() {
-            ErrorKind::OutOfMemory => return Err(Stop::OutOfMemory),
-            ErrorKind::NotFound => "no such file",
-            ErrorKind::PermissionDenied => "permission denied",
-            ErrorKind::IsADirectory => "is a directory",
-            ErrorKind::InvalidData => "not valid UTF-8",
-            _ => "can't be read",
-        },
-    };
-    Err(Stop::Ended(console.complain(Shown(file), reason)))
-}
-
 // Checks a file, or standard input for `-`.
 fn check_file<R: Input + Files + AllocGlobal, O: Write, E: Write>(
     rt: &R,
@@ -583,57 +554,6 @@ fn try_settings<O: Write, E: Write>(
         }
     }
     Ok(())
-}
-
-/// The paths to check: of the files, and of the manifests of folders; without any, of this folder and its workspaces.
-pub fn paths<R: Runtime + AllocGlobal, O: Write, E: Write>(
-    rt: &R,
-    console: &mut Console<O, E>,
-    files: Option<&[&str]>,
-) -> Result<Manifests, Stop> {
-    let Some(files) = files else {
-        let found = manifests_here(rt, console)?;
-        return Ok(with_something(console, ".", found));
-    };
-    let mut all = Manifests {
-        paths: Vec::new(console.alloc),
-        status: Status::Answered,
-    };
-    for file in files {
-        let is_folder = match fs::metadata(rt, *file) {
-            Ok(data) => data.is_dir() && *file != "-",
-            Err(error) if error.kind() == ErrorKind::OutOfMemory => return Err(Stop::OutOfMemory),
-            Err(_) => false,
-        };
-        if !is_folder {
-            all.paths.push(String::from_str(console.alloc, file)?)?;
-            continue;
-        }
-        let found = manifests_in(rt, console, file)?;
-        let found = with_something(console, file, found);
-        all.status = all.status.worse(found.status);
-        for path in found.paths {
-            all.paths.push(path)?;
-        }
-    }
-    Ok(all)
-}
-
-// Reports that a folder has no manifests, if nothing was found and all of it was read.
-fn with_something<O: Write, E: Write>(
-    console: &mut Console<O, E>,
-    folder: &str,
-    found: Manifests,
-) -> Manifests {
-    if !found.paths.is_empty() || found.status != Status::Answered {
-        return found;
-    }
-    let message =
-        "no package.json, deno.json, import_map.json or pnpm-workspace.yaml in this folder";
-    Manifests {
-        status: console.complain(Shown(folder), message),
-        ..found
-    }
 }
 
 /// `ranges check [FILE..]`: the ranges of each file that are refused, or legal and probably a mistake.

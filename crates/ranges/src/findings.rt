@@ -132,7 +132,7 @@ impl Format {
     /// Prints what stands before all findings.
     pub fn begin<O: Write, E: Write>(self, console: &mut Console<O, E>) -> Result<(), Stop> {
         match self {
-            Format::Sarif => Ok(write!(console.out, "{SARIF}")?),
+            Format::Sarif => Ok(write!(console.out, "{SARIF_FRONT}")?),
             Format::Lines | Format::Json | Format::GitHub => Ok(()),
         }
     }
@@ -209,7 +209,7 @@ fn uri(alloc: Global, path: &str) -> Result<String, AllocError> {
 }
 
 // SARIF up to its results, with the names of all rules.
-const SARIF: &str = "\
+const SARIF_FRONT: &str = "\
 {\"$schema\":\"https://json.schemastore.org/sarif-2.1.0.json\",\"version\":\"2.1.0\",\
 \"runs\":[{\"columnKind\":\"unicodeCodePoints\",\"tool\":{\"driver\":{\"name\":\"ranges\",\"rules\":[\
 {\"id\":\"any-zero\"},{\"id\":\"contained-alternative\"},{\"id\":\"disjoint-sections\"},\

@@ -1,10 +1,10 @@
 //! `ranges check --fix`: what ranges are rewritten to, and how files are written.
 
 use crate::advice::contained;
-use crate::checking::read_file;
 use crate::diff::print_diff;
 use crate::explaining::has_left_out;
 use crate::rules::{Level, Levels, Rule};
+use crate::walking::read_file;
 use answers::asking::Problem;
 use answers::explained::{Explanation, Piece, explain};
 use answers::reading;

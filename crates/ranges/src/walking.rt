@@ -1,8 +1,8 @@
-//! The manifests of folders and of workspaces.
+//! The manifests of folders and of workspaces, and the files of arguments.
 
 use std::alloc::{AllocError, Global};
-use std::io::{ErrorKind, Write};
-use std::rt::Runtime;
+use std::io::{BufRead, ErrorKind, Read, Write};
+use std::rt::{Files, Runtime};
 use std::{fs, io};
 use terminal::console::{Console, Status, Stop};
 use terminal::manifest::entries;
@@ -195,9 +195,9 @@ fn complain<O: Write, E: Write>(
     Ok(console.complain(Shown(folder), reason))
 }
 
-/// Finds the manifests in a folder and in those below it, but in none named `node_modules` or `.git`, nor what a `.gitignore` there
-/// ignores. The folder's own come first.
-pub fn manifests_in<R: Runtime + AllocGlobal, O: Write, E: Write>(
+// Finds the manifests in a folder and in those below it, but in none named `node_modules` or `.git`, nor what a `.gitignore` there
+// ignores. The folder's own come first.
+fn manifests_in<R: Runtime + AllocGlobal, O: Write, E: Write>(
     rt: &R,
     console: &mut Console<O, E>,
     folder: &str,
@@ -333,8 +333,8 @@ fn patterns_of<R: Runtime + AllocGlobal>(rt: &R, path: &str) -> Result<Vec<Strin
     Ok(patterns)
 }
 
-/// Finds the manifests of this folder, and those of its workspaces.
-pub fn manifests_here<R: Runtime + AllocGlobal, O: Write, E: Write>(
+// Finds the manifests of this folder, and those of its workspaces.
+fn manifests_here<R: Runtime + AllocGlobal, O: Write, E: Write>(
     rt: &R,
     console: &mut Console<O, E>,
 ) -> Result<Manifests, Stop> {
@@ -372,4 +372,85 @@ pub fn manifests_here<R: Runtime + AllocGlobal, O: Write, E: Write>(
         }
     }
     Ok(found)
+}
+
+// ---- arguments
+
+/// Reads a file, or standard input for `-`; what is wrong with the file itself is reported on standard error.
+pub fn read_file<R: Input + Files + AllocGlobal, O: Write, E: Write>(
+    rt: &R,
+    console: &mut Console<O, E>,
+    file: &str,
+) -> Result<String, Stop> {
+    let read = if file == "-" {
+        console.announce("ranges");
+        let mut text = String::new(console.alloc);
+        rt.reader().read_to_string(&mut text).map(|_| text)
+    } else {
+        fs::read_to_string(rt, file)
+    };
+    let reason = match read {
+        Ok(text) if text.is_empty() && file == "-" => "standard input is empty",
+        Ok(text) => return Ok(text),
+        Err(error) => match error.kind() {
+            ErrorKind::OutOfMemory => return Err(Stop::OutOfMemory),
+            ErrorKind::NotFound => "no such file",
+            ErrorKind::PermissionDenied => "permission denied",
+            ErrorKind::IsADirectory => "is a directory",
+            ErrorKind::InvalidData => "not valid UTF-8",
+            _ => "can't be read",
+        },
+    };
+    Err(Stop::Ended(console.complain(Shown(file), reason)))
+}
+
+/// The paths to check: of the files, and of the manifests of folders; without any, of this folder and its workspaces.
+pub fn paths<R: Runtime + AllocGlobal, O: Write, E: Write>(
+    rt: &R,
+    console: &mut Console<O, E>,
+    files: Option<&[&str]>,
+) -> Result<Manifests, Stop> {
+    let Some(files) = files else {
+        let found = manifests_here(rt, console)?;
+        return Ok(with_something(console, ".", found));
+    };
+    let mut all = Manifests {
+        paths: Vec::new(console.alloc),
+        status: Status::Answered,
+    };
+    for file in files {
+        let is_folder = match fs::metadata(rt, *file) {
+            Ok(data) => data.is_dir() && *file != "-",
+            Err(error) if error.kind() == ErrorKind::OutOfMemory => return Err(Stop::OutOfMemory),
+            Err(_) => false,
+        };
+        if !is_folder {
+            all.paths.push(String::from_str(console.alloc, file)?)?;
+            continue;
+        }
+        let found = manifests_in(rt, console, file)?;
+        let found = with_something(console, file, found);
+        all.status = all.status.worse(found.status);
+        for path in found.paths {
+            all.paths.push(path)?;
+        }
+    }
+    Ok(all)
+}
+
+// Reports that a folder has no manifests, if nothing was found and all of it was read.
+fn with_something<O: Write, E: Write>(
+    console: &mut Console<O, E>,
+    folder: &str,
+    found: Manifests,
+) -> Manifests {
+    if !found.paths.is_empty() || found.status != Status::Answered {
+        return found;
+    }
+    let message =
+        "no package.json, deno.json, import_map.json or pnpm-workspace.yaml in this folder";
+    Manifests {
+        status: console.complain(Shown(folder), message),
+        ..found
+    }
 }
