@@ -3,12 +3,12 @@
 use crate::apart::first_apart;
 use crate::checking::asked_range;
 use crate::walking::{Manifests, paths, read_file};
-use answers::asking::{Answer, Problem};
+use answers::asking::Problem;
 use answers::object::Object;
-use answers::questions::{common_version, text_of_version};
+use answers::questions::text_of_version;
 use answers::reading::range;
 use clap::ArgMatches;
-use deno_semver::VersionReq;
+use deno_semver::{PreRelease, VersionReq};
 use semver_req::common::values::Flavour;
 use serde_json::Value;
 use std::alloc::{AllocError, Global};
@@ -106,26 +106,26 @@ fn add(alloc: Global, packages: &mut Packages, path: &str, text: &str) -> Result
 }
 
 // What all who ask for a package accept.
-fn agreed<O: Write, E: Write>(
-    console: &Console<O, E>,
+fn agreed(
+    alloc: Global,
     package: &Package,
-) -> Result<Agreement, Stop> {
-    let (alloc, pre_release) = (console.alloc, console.options.pre_release);
-    let mut texts = Vec::new(alloc);
-    for asker in package.askers.iter() {
-        texts.push(asker.range.as_str())?;
-    }
-    let lowest = match common_version(alloc, Flavour::Npm, pre_release, texts.as_slice()) {
-        Ok(Answer::Value(Some(lowest))) => Some(text_of_version(alloc, &lowest)?),
-        Ok(Answer::Value(None) | Answer::Tag(_)) | Err(Problem::Invalid(_)) => None,
-        Err(Problem::OutOfMemory) => return Err(Stop::OutOfMemory),
+    pre_release: PreRelease,
+) -> Result<Agreement, AllocError> {
+    let reqs = package.reqs.as_slice();
+    let lowest = match reqs.split_first() {
+        Some((first, others)) => first.common_version_of_all(alloc, others, pre_release)?,
+        None => None,
     };
-    let apart = if lowest.is_some() {
-        None
-    } else {
-        first_apart(alloc, package.reqs.as_slice(), pre_release)?
-    };
-    Ok(Agreement { lowest, apart })
+    Ok(match lowest {
+        Some(lowest) => Agreement {
+            lowest: Some(text_of_version(alloc, &lowest)?),
+            apart: None,
+        },
+        None => Agreement {
+            lowest: None,
+            apart: first_apart(alloc, reqs, pre_release)?,
+        },
+    })
 }
 
 fn json(
@@ -215,7 +215,7 @@ pub fn report<R: Runtime + AllocGlobal, O: Write, E: Write>(
         if !package.is_shared() {
             continue;
         }
-        let agreement = agreed(console, package)?;
+        let agreement = agreed(alloc, package, console.options.pre_release)?;
         status = status.worse(Status::of(agreement.lowest.is_some()));
         if console.options.json {
             console.item(json(alloc, name.as_str(), package, &agreement))?;

@@ -84,11 +84,11 @@ fn print_hunk<O: Write>(out: &mut O, hunk: &[Line<'_>]) -> Result<(), Stop> {
 }
 
 /// Prints what differs between two texts of a file.
-pub fn print_diff<O: Write, E: Write>(
+pub fn print_diff<'t, O: Write, E: Write>(
     console: &mut Console<O, E>,
     path: &str,
-    old: &str,
-    new: &str,
+    old: &'t str,
+    new: &'t str,
 ) -> Result<(), Stop> {
     let lines = lines(console.alloc, old, new)?;
     let lines = lines.as_slice();

@@ -232,8 +232,8 @@ fn with_fixes(alloc: Global, path: &str, file: &str, settings: &[&str]) -> Resul
             edit.put(entry, found, range.as_str())?;
         }
     }
-    edit.new.push_str(text.get(edit.taken..).unwrap_or(""))?;
-    let Edit { new, .. } = edit;
+    let Edit { mut new, taken, .. } = edit;
+    new.push_str(text.get(taken..).unwrap_or(""))?;
     Ok(new)
 }
 
