@@ -2,11 +2,10 @@
 
 use crate::advice::contained;
 use crate::diff::print_diff;
-use crate::explaining::has_left_out;
 use crate::rules::{Level, Levels, Rule};
 use crate::walking::read_file;
 use answers::asking::Problem;
-use answers::explained::{Explanation, Piece, explain};
+use answers::explained::{Explanation, Meaning, Piece, explain};
 use answers::reading;
 use deno_semver::PreRelease;
 use package_answers::references::read_reference;
@@ -133,31 +132,62 @@ fn canonical(alloc: Global, flavour: Flavour, range: &str) -> Result<Option<Stri
     }
 }
 
+// Whether npm reads a number behind a wildcard, which it drops.
+fn has_dropped_number(range: &str) -> bool {
+    range.split('|').any(|alternative| number_behind_wildcard(alternative).is_some())
+}
+
+// Whether each alternative is a range that some version matches.
+fn all_match(pieces: &[Piece]) -> bool {
+    pieces.iter().all(|piece| match &piece.meaning {
+        Meaning::Range(matches) => matches.lowest.is_some(),
+        Meaning::LeftOut(_) => false,
+    })
+}
+
+// The alternatives of a range that no other contains; none if one of them isn't a range that some version matches.
+fn shortened(
+    alloc: Global,
+    levels: &Levels,
+    flavour: Flavour,
+    range: &str,
+) -> Result<Option<String>, Stop> {
+    match pieces_of(alloc, flavour, range)? {
+        Some(pieces) if all_match(pieces.as_slice()) => {
+            Ok(Some(joined(alloc, pieces.as_slice(), levels)?))
+        }
+        _ => Ok(None),
+    }
+}
+
 // What a range is rewritten to, if it means the same to npm.
 fn better(alloc: Global, levels: &Levels, found: Found<'_>) -> Result<Option<String>, Stop> {
     let (range, flavour) = (found.range, found.flavour);
     let has_commas = range.contains(',') || range.contains('&');
-    let is_odd = range.trim_end().ends_with("||") || number_behind_wildcard(range).is_some();
-    if is_odd || has_commas && levels.of(Rule::IgnoredComparator) == Level::Off {
+    if has_commas && levels.of(Rule::IgnoredComparator) == Level::Off {
         return Ok(None);
     }
     let spaced = with_spaces(alloc, range)?;
-    if flavour == Flavour::Npm && !is_read_alike(spaced.as_str()) {
+    let text = spaced.as_str();
+    // Deno has no version below 0.0.0, and npm has pre-releases of it.
+    let is_odd = text.trim_end().ends_with("||")
+        || text.contains("0.0.0-")
+        || has_dropped_number(text);
+    if is_odd || flavour == Flavour::Npm && !is_read_alike(text) {
         return Ok(None);
     }
-    let Some(pieces) = pieces_of(alloc, flavour, spaced.as_str())? else {
+    let Some(kept) = shortened(alloc, levels, flavour, text)? else {
         return Ok(None);
     };
-    if has_left_out(pieces.as_slice()) {
-        return Ok(None);
+    if levels.of(Rule::NotCanonical) == Level::Off {
+        let is_new = has_commas || kept.len() < range.trim().len();
+        return Ok(if is_new { Some(kept) } else { None });
     }
-    let kept = joined(alloc, pieces.as_slice(), levels)?;
-    drop(pieces);
-    if levels.of(Rule::NotCanonical) != Level::Off {
-        return canonical(alloc, flavour, kept.as_str());
+    match canonical(alloc, flavour, kept.as_str())? {
+        // An empty alternative has become `*`, which contains all others.
+        Some(form) => shortened(alloc, levels, flavour, form.as_str()),
+        None => Ok(None),
     }
-    let is_new = has_commas || kept.len() < range.trim().len();
-    Ok(if is_new { Some(kept) } else { None })
 }
 
 // Whether YAML takes a text without quotes for a string.
