@@ -10,13 +10,17 @@ refused if npm refuses a dependency, an override or the version, or if it isn't 
 were taken by ask.mjs, which asks the modules npm-package-arg and semver that npm brings along; --take takes them anew, of the npm on this
 machine. Where node and npm are here, and the modules have these versions, they are asked each time as well, and must answer the same.
 
-`ranges check` agrees if it reports an error exactly where npm refuses. The last line counts; the status is 1 where something differs."""
+`ranges check` agrees if it reports an error exactly where npm refuses. What it rewrites with --fix must mean the same to npm's semver, of which
+same.mjs asks, and isn't rewritten again. The last line counts; the status is 1 where something differs."""
 import json, pathlib, shutil, subprocess, sys, tempfile
 
 TOP = pathlib.Path(__file__).resolve().parents[2]
 HERE = pathlib.Path(__file__).resolve().parent
 RANGES = TOP / "crates/ranges/out/ranges"
 TABLES = ("specifiers", "manifests")
+# Ranges to rewrite: each comparator, or nothing, and another, with each separator between them.
+COMPARATORS = ("1", "^1.2", "~1.2.3", ">=1.2", "<2", ">1.2.x", "<=2.1.0", "1.x.3", "^0.0.3", "2.0.0-beta", ">=1.2.0-rc.1", "<0.0.0-beta", "*", "")
+SEPARATORS = (" ", " || ", "||", ", ", " - ")
 
 
 def rows_of(name):
@@ -25,15 +29,15 @@ def rows_of(name):
     return versions, dict(rows)
 
 
-def asked_anew(texts):
-    """npm's answers on this machine, or none."""
+def asked_anew(script, given):
+    """What a script answers by npm's modules on this machine, or none."""
     npm, node = shutil.which("npm"), shutil.which("node")
     if not npm or not node:
         return None
     modules = pathlib.Path(npm).resolve().parents[1] / "node_modules"
     if not (modules / "npm-package-arg").is_dir():
         return None
-    ran = subprocess.run([node, HERE / "ask.mjs", modules], input=json.dumps(texts), capture_output=True, text=True, check=True)
+    ran = subprocess.run([node, HERE / script, modules], input=json.dumps(given), capture_output=True, text=True, check=True)
     return json.loads(ran.stdout)
 
 
@@ -67,9 +71,25 @@ def manifests(rows):
             yield f"manifest {text[:80]!r}: npm has {wanted}, ranges check {found}"
 
 
+def rewritten():
+    """What --fix rewrites to something else than npm reads, or rewrites again."""
+    old = [one + separator + other for one in COMPARATORS for separator in SEPARATORS for other in COMPARATORS]
+    with tempfile.TemporaryDirectory() as room:
+        path = pathlib.Path(room, "package.json")
+        path.write_text(json.dumps({"dependencies": {f"p{place}": text for place, text in enumerate(old)}}))
+        subprocess.run([RANGES, "check", "--fix", path], stdout=subprocess.DEVNULL, timeout=20)
+        new = json.loads(path.read_text())["dependencies"].values()
+        again = subprocess.run([RANGES, "check", "--dry-run", path], capture_output=True, text=True, timeout=20).stdout
+    pairs = [pair for pair in zip(old, new) if pair[0] != pair[1]]
+    told = asked_anew("same.mjs", pairs) or []
+    yield from (f"--fix: {one!r} was rewritten to {other!r}, and npm sees {version} in one of them" for one, other, version in told)
+    if not pairs or again:
+        yield f"--fix: {len(pairs)} of {len(old)} ranges were rewritten, and then {again!r}"
+
+
 def take():
     texts = {name: list(rows_of(name)[1]) for name in TABLES}
-    answers = asked_anew(texts)
+    answers = asked_anew("ask.mjs", texts)
     if answers is None:
         sys.exit("there is no node with npm here")
     for name in TABLES:
@@ -83,8 +103,8 @@ def main():
     if not RANGES.is_file():
         sys.exit(f"{RANGES} isn't built: run rt ci first")
     tables = {name: rows_of(name) for name in TABLES}
-    answers = asked_anew({name: list(rows) for name, (_, rows) in tables.items()})
-    wrong = [*specifiers(tables["specifiers"][1]), *manifests(tables["manifests"][1])]
+    answers = asked_anew("ask.mjs", {name: list(rows) for name, (_, rows) in tables.items()})
+    wrong = [*specifiers(tables["specifiers"][1]), *manifests(tables["manifests"][1]), *rewritten()]
     anew = "npm isn't here, or has other versions"
     if answers and all(answers["versions"] == versions for versions, _ in tables.values()):
         anew = "npm answers the same"

@@ -137,15 +137,20 @@ fn has_dropped_number(range: &str) -> bool {
     range.split('|').any(|alternative| number_behind_wildcard(alternative).is_some())
 }
 
-// Whether each alternative is a range that some version matches.
-fn all_match(pieces: &[Piece]) -> bool {
+// Whether each alternative is a range that some version matches. A pre-release among several comparators is left out, since npm ends `^1`
+// below all pre-releases of 2.0.0, and Deno doesn't.
+fn are_alike(pieces: &[Piece]) -> bool {
     pieces.iter().all(|piece| match &piece.meaning {
-        Meaning::Range(matches) => matches.lowest.is_some(),
+        Meaning::Range(matches) => {
+            let has_pre = matches.pre_of_start || matches.pre_of_end;
+            let has_several = piece.text.as_str().split_whitespace().count() > 1;
+            matches.lowest.is_some() && !(has_pre && has_several)
+        }
         Meaning::LeftOut(_) => false,
     })
 }
 
-// The alternatives of a range that no other contains; none if one of them isn't a range that some version matches.
+// The alternatives of a range that no other contains; none if npm may read one in another way.
 fn shortened(
     alloc: Global,
     levels: &Levels,
@@ -153,7 +158,7 @@ fn shortened(
     range: &str,
 ) -> Result<Option<String>, Stop> {
     match pieces_of(alloc, flavour, range)? {
-        Some(pieces) if all_match(pieces.as_slice()) => {
+        Some(pieces) if are_alike(pieces.as_slice()) => {
             Ok(Some(joined(alloc, pieces.as_slice(), levels)?))
         }
         _ => Ok(None),
