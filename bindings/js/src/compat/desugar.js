@@ -3,7 +3,7 @@
 import { grammarFor } from './grammar.js';
 
 const NOTHING = '<0.0.0-0';
-const SPACED_OPERATOR = /([<>]=?|=)\s+([v=\s]*[\dxX*])/g;
+const SPACED_OPERATOR = /(\s*)([<>]?=?)\s*([v=\s]*[\dxX*])/g; // also without an operator, so that `v= 1` stays
 const SPACED_TILDE = /~>?\s+/g;
 const SPACED_CARET = /\^\s+/g;
 const STAR = /[<>]?=?\s*\*/;
@@ -16,7 +16,7 @@ export function desugar(alternative, options) {
   const grammar = grammarFor(options);
   const zero = options.includePrerelease ? '-0' : '';
   const tokens = withoutHyphen(alternative, grammar, zero)
-    .replace(SPACED_OPERATOR, '$1$2').replace(SPACED_TILDE, '~').replace(SPACED_CARET, '^')
+    .replace(SPACED_OPERATOR, '$1$2$3').replace(SPACED_TILDE, '~').replace(SPACED_CARET, '^')
     .split(' ');
   const comparators = tokens.map((token) => comparatorsOf(token, grammar, zero)).join(' ').split(/\s+/);
   return comparators.map((comparator) => (comparator === `>=0.0.0${zero}` ? '' : comparator));
