@@ -29,7 +29,10 @@ DESCRIPTION = (
     "The canonical form of a range is the shortest usual text that means the same.",
     "Where a file is named, - is standard input. Behind -- each argument is one, also where it begins with a hyphen.",
 )
-ENVIRONMENT = (("NO_COLOR", "If it is set and not empty, nothing is printed in colour."),)
+ENVIRONMENT = (
+    ("NO_COLOR", "If it is set and not empty, nothing is printed in colour, unless --color=always is given."),
+    ("TERM", "If it is dumb, nothing is printed in colour, unless --color=always is given."),
+)
 PROGRAM = TOP / "crates/ranges/out/ranges"
 
 
