@@ -6,7 +6,9 @@ import { test } from 'node:test';
 import { diagnose, explain } from '../out/package/index.js';
 
 const table = readFileSync(new URL('../../../tools/programs/ranges.jsonl', import.meta.url), 'utf8');
-const GRAMMARS = { npm: 'npm', normal: 'normalized', strict: 'strict' };
+const GRAMMARS = { npm: 'npm', normal: 'normalized', normalized: 'normalized', strict: 'strict' };
+// Rows with these print something else, or explain what standard input has.
+const OTHERS = /^(--json|--help|--color=always|-[a-z]?)$/;
 
 /** The lines of a text with a caret below the first one: `[text, column of the caret]`. */
 function caretsOf(printed) {
@@ -21,7 +23,7 @@ function caretsOf(printed) {
 
 /** The text and the options of a row that asks for one explanation, with long options. */
 function asked([command, ...rest]) {
-  if (command !== 'explain' || rest.some((it) => it === '--json' || it === '--help' || /^-[a-z]$/.test(it))) return undefined;
+  if (command !== 'explain' || rest.some((it) => OTHERS.test(it))) return undefined;
   const option = rest.indexOf('--grammar');
   const grammar = GRAMMARS[option < 0 ? 'npm' : rest[option + 1]];
   const texts = rest.filter((it, index) => !it.startsWith('--') && (option < 0 || index !== option + 1));

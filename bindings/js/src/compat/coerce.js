@@ -11,14 +11,14 @@ const QUALIFIER = String.raw`(-${IDENTIFIER}(?:\.${IDENTIFIER})*)?(\+[a-zA-Z\d-]
 const RUN = new RegExp(String.raw`(?<!\d)(?=(${NUMBERS})(?!\d))`, 'g');
 const QUALIFIED_RUN = new RegExp(String.raw`(?<!\d)(?=(${NUMBERS}${QUALIFIER})(?!\d))`, 'g');
 
-/** The first run of one to three numbers, or the last one; of those that end together, the longest. */
+/** The first run of one to three numbers, or the last one; of neighbours that end together, the longest. A run ends behind its next character. */
 function runIn(text, { rtl, includePrerelease }) {
   let found;
-  let end = -1;
+  let end;
   for (const run of text.matchAll(includePrerelease ? QUALIFIED_RUN : RUN)) {
-    const endsAt = run.index + run[1].length;
-    if (endsAt > end) [found, end] = [run, endsAt];
-    if (!rtl) break;
+    const endsAt = Math.min(run.index + run[1].length + 1, text.length);
+    if (endsAt !== end) [found, end] = [run, endsAt];
+    if (!rtl || end === text.length) break;
   }
   return found;
 }
