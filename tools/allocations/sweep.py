@@ -172,7 +172,7 @@ def ranges_commands(folder):
     """Commands of ranges, each with its standard input."""
     loose, tag = TEXTS[0], "latest"
     for json_form in ([], ["--json"]):
-        yield from (([name, *json_form, loose, tag], b"") for name in ("explain", "normal"))
+        yield from (([name, *json_form, loose, tag], b"") for name in ("explain", "canonical"))
         yield from (([name, *json_form, loose], VERSIONS) for name in ("filter", "best", "outdated"))
         yield from (([name, *json_form, loose, "^1 || foo"], b"") for name in ("common", "within", "overlap"))
         yield from ((["compare", *json_form, "1.2.3-rc", "1.2.3"], b""), (["overlap", *json_form, "*", ">=1.0.0-a <1.0.0", "1"], b""))
@@ -182,8 +182,11 @@ def ranges_commands(folder):
         rules = [word for rule in ("meta-without-range", "pre-release-bound") for word in ("--rule", f"{rule}=warn")]
         yield from ((["check", *json_form, *rules, "-"], ODD), (["check", *json_form, folder], b""))
         yield from ((["package", *json_form, TEXTS[2]], b""), (["reference", *json_form, "jsr:@a/b@^1/c.ts"], b""))
+        yield from ((["increment", *json_form, "prerelease", "1.2.3-rc.1", "--preid", "rc"], b""), (["asked", *json_form, folder], b""))
+        yield ["difference", *json_form, "1.2.3", "1.3.0-rc.1"], b""
+    yield from ((["check", "--sarif", "-"], ODD), (["check", "--dry-run", folder], b""), (["increment", "release", "1.2.3"], b""))
     yield ["scans", "--where", "key,pre", "^1.2.3-beta || 3"], b""
-    yield from ((["filter", "-q", "*"], b'["1.0.0", "2.0.0-a"]'), (["best", "--tags", "*", "-r", "1"], b"refs/tags/v1.0.0\n"))
+    yield from ((["filter", "-q", "*"], b'["1.0.0", "2.0.0-a"]'), (["best", "--tags", "*", "--range", "1"], b"refs/tags/v1.0.0\n"))
     yield from ((["check", "--github", "-"], MANIFEST), (["--help"], b""), (["frobnicate"], b""), (["check", "none.json"], b""))
     yield from ((["check", "-"], b"{"), (["check", "-"], b"[]"), (["filter", "*"], b"{}"), (["check", "--rule", "none=off"], b""))
 
