@@ -113,8 +113,10 @@ fn agreed(
 ) -> Result<Agreement, AllocError> {
     let reqs = package.reqs.as_slice();
     let lowest = match reqs.split_first() {
-        Some((first, others)) => first.common_version_of_all(alloc, others, pre_release)?,
-        None => None,
+        Some((first, others)) if first.tag().is_none() && VersionReq::have_no_tag(others) => {
+            first.common_version_of_all(alloc, others, pre_release)?
+        }
+        _ => None,
     };
     Ok(match lowest {
         Some(lowest) => Agreement {
