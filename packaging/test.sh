@@ -301,6 +301,8 @@ try_packages() {
     python3 -m venv "$root/environment"
     "$root/environment/bin/pip" install --quiet --no-index --disable-pip-version-check "$root"/first/*.whl
     expect 1.2.0 "$root/environment/bin/python" -c 'import deno_semver; print(deno_semver.best("^1", ["1.0.0", "1.2.0", "2.0.0"]))'
+    "$root/environment/bin/pip" install --quiet --no-index --disable-pip-version-check --force-reinstall ./bindings/python
+    expect 1.2.0 "$root/environment/bin/python" -c 'import deno_semver; print(deno_semver.VersionList(["1.0.0", "1.2.0"]).best("^1"))'
     licensed "$(echo "$root"/environment/lib/python3*/site-packages/"deno_semver-$version.dist-info/licenses")"
     tar -C "$root" -xzf "$root/first/deno_semver_proved-$version-x86_64-linux.tar.gz"
     licensed "$root/deno_semver_proved-$version"

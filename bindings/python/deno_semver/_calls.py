@@ -80,13 +80,13 @@ def pre_number(pre_releases: Any) -> int:
 
 
 # The buffer that most texts fit in.
-_SHORT = 128
-_Short = ctypes.c_char * _SHORT
+SHORT = 128
+Short = ctypes.c_char * SHORT
 
 
 def read(name: str, *arguments: Any, after: Tuple[Any, ...] = ()) -> Tuple[int, str]:
     """The code of a call that writes a text, and the text."""
-    call, needed, size, out = CALLS[name], c_size_t(), _SHORT, _Short()
+    call, needed, size, out = CALLS[name], c_size_t(), SHORT, Short()
     while True:
         code = call(*arguments, out, size, byref(needed), *after)
         if needed.value <= size:
@@ -99,7 +99,7 @@ def hold(name: str, *arguments: Any) -> Tuple[int, str, Handle]:
     """The code of a call that holds a value, and the handle; with it the text of the value, empty if that is long, or an error message.
 
     A call isn't repeated once the handle has a value."""
-    handle, needed, size, out = Handle(), c_size_t(), _SHORT, _Short()
+    handle, needed, size, out = Handle(), c_size_t(), SHORT, Short()
     while True:
         code = CALLS[name](*arguments, byref(handle), out, size, byref(needed))
         if needed.value <= size:

@@ -11,8 +11,10 @@ from typing import Any, Callable, List, Literal, NamedTuple, Optional, Tuple, Un
 from ._calls import (
     CALLS,
     GRAMMARS,
+    SHORT,
     TAG,
     YES,
+    Short,
     encoded,
     fail_range,
     fail_version,
@@ -25,6 +27,7 @@ from ._calls import (
 from ._errors import InvalidRange, InvalidVersion, TagError
 from ._table import Handle
 
+_DISPLAY = CALLS["version"]
 _HOLDING = Lock()  # a version, which threads may share, is held once
 
 Grammar = Literal["npm", "normalized", "strict"]
@@ -75,10 +78,15 @@ class Version:
 
     def __new__(cls, text: str) -> Version:
         source = encoded(text, "text", InvalidVersion)
-        code, written = read("version", source, len(source))
+        # As `read` does, without its generality, since this is the call that is made most.
+        out, needed = Short(), c_size_t()
+        code = _DISPLAY(source, len(source), out, SHORT, byref(needed))
+        written = out.value.decode()
+        if code != YES or needed.value > SHORT:
+            code, written = read("version", source, len(source))
         if code != YES:
             fail_version(code, text)
-        self = super().__new__(cls)
+        self = object.__new__(cls)
         self._text = written
         self._numbers = ()
         self._held = None
