@@ -1,9 +1,11 @@
 _ranges() {
-    local word=${COMP_WORDS[COMP_CWORD]} options=""
+    local word=${COMP_WORDS[COMP_CWORD]} before=${COMP_WORDS[COMP_CWORD - 1]} options=""
     COMPREPLY=()
-    case ${COMP_WORDS[COMP_CWORD - 1]} in
+    # The words of --OPTION=VALUE are three.
+    if [ "$word" = = ]; then word=""; elif [ "$before" = = ]; then before=${COMP_WORDS[COMP_CWORD - 2]}; fi
+    case $before in
         --color) COMPREPLY=($(compgen -W "auto always never" -- "$word")); return ;;
-        --grammar) COMPREPLY=($(compgen -W "npm normalized strict" -- "$word")); return ;;
+        -g|--grammar) COMPREPLY=($(compgen -W "npm normalized strict" -- "$word")); return ;;
         --base) COMPREPLY=($(compgen -W "0 1 none" -- "$word")); return ;;
     esac
     if [ "$COMP_CWORD" = 1 ]; then
@@ -32,6 +34,9 @@ _ranges() {
         difference) options="--color -j --json -q --quiet -h --help -V --version" ;;
     esac
     case $word in -*) COMPREPLY=($(compgen -W "$options" -- "$word")); return ;; esac
-    case ${COMP_WORDS[1]} in check) COMPREPLY=($(compgen -f -- "$word")) ;; esac
+    case ${COMP_WORDS[1]} in check)
+        compopt -o filenames 2>/dev/null
+        mapfile -t COMPREPLY < <(compgen -f -- "$word") ;;
+    esac
 }
 complete -F _ranges ranges
