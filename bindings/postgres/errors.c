@@ -108,6 +108,7 @@ static int characters(const char *at, size_t len) {
 /* The string around a byte, and below it a caret. */
 static const char *caret_at(sv_string string, size_t place) {
     enum { AROUND = 40 };
+    if (place > string.len) place = string.len;
     size_t from = place > AROUND ? place - AROUND : 0, to = string.len - place > AROUND ? place + AROUND : string.len;
     while (from > 0 && is_inside(string.at[from])) from--;
     while (to < string.len && is_inside(string.at[to])) to++;

@@ -3,15 +3,16 @@
 #include "deno_semver.h"
 
 #include "access/stratnum.h"
-#include "catalog/namespace.h"
 #include "catalog/pg_am_d.h"
+#include "catalog/pg_operator_d.h"
+#include "catalog/pg_proc_d.h"
 #include "catalog/pg_type_d.h"
 #include "nodes/makefuncs.h"
 #include "nodes/nodeFuncs.h"
 #include "nodes/pathnodes.h"
 #include "nodes/supportnodes.h"
 #include "optimizer/optimizer.h"
-#include "parser/parse_func.h"
+#include "utils/builtins.h"
 #include "utils/lsyscache.h"
 #include "utils/syscache.h"
 
@@ -22,11 +23,7 @@ typedef struct {
     const char *low, *high;
 } piece;
 
-/* ---- names, which are in the schema of the extension's functions */
-
-static List *name_of(Oid function, const char *name) {
-    return list_make2(makeString(get_namespace_name(get_func_namespace(function))), makeString(pstrdup(name)));
-}
+/* ---- names, which are in the schema of the extension's functions; who asks needs no rights there */
 
 static Oid type_of(Oid function, const char *name) {
     return GetSysCacheOid2(TYPENAMENSP, Anum_pg_type_oid, CStringGetDatum(name), ObjectIdGetDatum(get_func_namespace(function)));
@@ -37,7 +34,13 @@ static Oid function_of(Oid function, const char *name, List *types) {
     int count = 0;
     ListCell *cell;
     foreach(cell, types) given[count++] = lfirst_oid(cell);
-    return LookupFuncName(name_of(function, name), count, given, true);
+    return GetSysCacheOid3(PROCNAMEARGSNSP, Anum_pg_proc_oid, CStringGetDatum(name), PointerGetDatum(buildoidvector(given, count)),
+                           ObjectIdGetDatum(get_func_namespace(function)));
+}
+
+static Oid operator_of(Oid function, const char *name, Oid left, Oid right) {
+    return GetSysCacheOid4(OPERNAMENSP, Anum_pg_operator_oid, CStringGetDatum(name), ObjectIdGetDatum(left), ObjectIdGetDatum(right),
+                           ObjectIdGetDatum(get_func_namespace(function)));
 }
 
 /* ---- clauses */
@@ -115,8 +118,7 @@ static Node *simplify(const FuncExpr *call) {
     int count = pieces_of(PG_DETOAST_DATUM_PACKED(((Const *)range)->constvalue), pieces);
     if (count < 2) return NULL;
     Oid bound = type_of(call->funcid, "semver_bound");
-    Oid from = OpernameGetOprid(name_of(call->funcid, ">="), version_type, bound);
-    Oid below = OpernameGetOprid(name_of(call->funcid, "<"), version_type, bound);
+    Oid from = operator_of(call->funcid, ">=", version_type, bound), below = operator_of(call->funcid, "<", version_type, bound);
     Oid within = function_of(call->funcid, "semver_is_within", list_make2_oid(version_type, range_type));
     if (!OidIsValid(from) || !OidIsValid(below) || !OidIsValid(within)) return NULL;
     List *any = NIL;

@@ -171,6 +171,7 @@ repeat() {
 }
 
 trap stop EXIT
+trap 'exit 1' INT TERM
 install
 exports_no_calls
 initialize

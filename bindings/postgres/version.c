@@ -7,6 +7,8 @@
 #include "utils/builtins.h"
 #include "utils/sortsupport.h"
 
+enum { MOST_TRIED = 256 };
+
 enum { FORMAT = 1 }; /* of what is sent: the version as displayed follows, or the key of a bound */
 
 /* ---- input and output */
@@ -78,15 +80,15 @@ Datum deno_semver_send(PG_FUNCTION_ARGS) {
     PG_RETURN_BYTEA_P(pq_endtypsend(&message));
 }
 
-/* The version of a text, or NULL if it is none. */
+/* The version of a text, or NULL if it is none, or too long for npm: whatever the settings, since an index may have it. */
 PG_FUNCTION_INFO_V1(deno_semver_try);
 Datum deno_semver_try(PG_FUNCTION_ARGS) {
     sv_string version = sv_utf8_of(PG_GETARG_TEXT_PP(0));
     struct varlena *made = NULL;
+    if (version.len > MOST_TRIED) PG_RETURN_NULL();
     int32_t code = make(version, &made);
     if (code == SEMVER_INVALID_VERSION || code == SEMVER_NOT_UTF8) PG_RETURN_NULL();
     if (code != SEMVER_YES) sv_reject_version(NULL, version, code);
-    sv_is_long_version(NULL, version);
     PG_RETURN_POINTER(made);
 }
 

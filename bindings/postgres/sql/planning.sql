@@ -1,4 +1,4 @@
-CREATE TABLE versions(package text, version semver, written text);
+CREATE TABLE versions(package text, version semver, written text) WITH (autovacuum_enabled = off);
 INSERT INTO versions SELECT 'p' || i % 10, v::semver, v
   FROM generate_series(1, 5000) i,
     LATERAL (SELECT (i % 7) || '.' || (i % 5) || '.' || i % 50 || CASE WHEN i % 6 = 0 THEN '-a.' || i % 9 ELSE '' END AS v) x;
@@ -46,4 +46,14 @@ SET enable_seqscan = off;
 \pset format unaligned
 EXPLAIN (COSTS OFF) SELECT * FROM versions WHERE version OPERATOR(elsewhere.<@) '1.2.3 || ^5.1';
 EXPLAIN (COSTS OFF) SELECT * FROM (VALUES ('^1.2'::elsewhere.semver_range)) d(range) JOIN versions ON version OPERATOR(elsewhere.<@) d.range;
+-- by one who may not use that schema
+CREATE VIEW chosen AS SELECT count(*) FROM versions WHERE version OPERATOR(elsewhere.<@) '1.2.3 || ^5.1';
+CREATE VIEW joined AS SELECT count(*) FROM (VALUES ('^1.2'::elsewhere.semver_range)) d(range), versions WHERE version OPERATOR(elsewhere.<@) d.range;
+CREATE ROLE regress_deno_semver;
+GRANT SELECT ON chosen, joined TO regress_deno_semver;
+SET ROLE regress_deno_semver;
+SELECT * FROM chosen, joined;
+RESET ROLE;
+DROP VIEW chosen, joined;
+DROP ROLE regress_deno_semver;
 DROP EXTENSION deno_semver CASCADE;

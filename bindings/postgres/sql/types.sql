@@ -10,6 +10,7 @@ SET deno_semver.max_length = 400;
 SELECT length(('1.0.0-' || repeat('a', 300))::semver::text);
 RESET deno_semver.max_length;
 SELECT semver_try('1.2'), semver_try('1.2.3'), semver_try(NULL), semver_try(repeat('1', 1000));
+SELECT semver_try('1.0.0-' || repeat('a', 250)) IS NULL AS of_256, semver_try('1.0.0-' || repeat('a', 251)) IS NULL AS of_257;
 -- ranges
 SELECT '^1.2 || 3.x'::semver_range, semver_canonical('>=1.2.0 <2.0.0 || 3.x'), semver_canonical('latest'), semver_canonical('~1', 'strict');
 SELECT '^1.2.3.4'::semver_range;
