@@ -105,6 +105,28 @@ static char *error_of_version(int32_t code, text version) {
     return error;
 }
 
+/* The end of the string of JSON whose first quote is at this place: behind its last one. */
+static const char *end_of_string(const char *at) {
+    for (at++; *at != '"'; at++)
+        if (*at == '\\') at++;
+    return at + 1;
+}
+
+/* The number of the first member "start" in JSON without whitespace. Strings are passed whole, so one that holds such a text isn't taken for it. */
+static size_t start_of(const char *json) {
+    static const char NAME[] = "\"start\"";
+    while (*json) {
+        if (*json != '"') {
+            json++;
+            continue;
+        }
+        const char *name = json;
+        json = end_of_string(json);
+        if (*json == ':' && (size_t)(json - name) == strlen(NAME) && memcmp(name, NAME, strlen(NAME)) == 0) return strtoull(json + 1, NULL, 10);
+    }
+    return 0;
+}
+
 /* Where a range is invalid: "start" of the first of its errors. */
 static int32_t find_place(uint32_t grammar, text range, size_t *place) {
     written json;
@@ -113,9 +135,7 @@ static int32_t find_place(uint32_t grammar, text range, size_t *place) {
     WRITES(code, json, semver_errors(grammar, BYTES(range), OUT(&json)));
     if (code == SEMVER_YES) {
         json.at[json.len] = 0;
-        /* A quote within a string is escaped, so this is the name of a member. */
-        const char *start = strstr(json.at, "\"start\":");
-        if (start) *place = strtoull(start + strlen("\"start\":"), NULL, 10);
+        *place = start_of(json.at);
     }
     end(&json);
     return code;
