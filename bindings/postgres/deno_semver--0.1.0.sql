@@ -19,6 +19,7 @@ CREATE TYPE semver (
 );
 COMMENT ON TYPE semver IS 'a version of an npm or JSR package, ordered by precedence and then by its build';
 CREATE CAST (text AS semver) WITH INOUT AS ASSIGNMENT;
+CREATE CAST (varchar AS semver) WITH INOUT AS ASSIGNMENT;
 
 -- Keys compare by their bytes, also in a database with another collation.
 CREATE DOMAIN semver_sort_key AS text COLLATE "C";
@@ -52,6 +53,7 @@ CREATE TYPE semver_range (
 );
 COMMENT ON TYPE semver_range IS 'a range of npm''s grammar, which matches pre-releases by npm''s rule';
 CREATE CAST (text AS semver_range) WITH INOUT AS ASSIGNMENT;
+CREATE CAST (varchar AS semver_range) WITH INOUT AS ASSIGNMENT;
 
 -- A bound of scans: what an index of versions is scanned from, or up to.
 CREATE TYPE semver_bound;
@@ -214,13 +216,25 @@ CREATE FUNCTION semver_compare(semver, semver) RETURNS integer AS 'MODULE_PATHNA
   LANGUAGE C IMMUTABLE STRICT PARALLEL SAFE;
 CREATE OPERATOR #< (LEFTARG = semver, RIGHTARG = semver, FUNCTION = semver_precedence_lt, COMMUTATOR = #>, NEGATOR = #>=, RESTRICT = scalarltsel, JOIN = scalarltjoinsel);
 CREATE OPERATOR #<= (LEFTARG = semver, RIGHTARG = semver, FUNCTION = semver_precedence_le, COMMUTATOR = #>=, NEGATOR = #>, RESTRICT = scalarlesel, JOIN = scalarlejoinsel);
-CREATE OPERATOR #= (LEFTARG = semver, RIGHTARG = semver, FUNCTION = semver_precedence_eq, COMMUTATOR = #=, NEGATOR = #<>, RESTRICT = eqsel, JOIN = eqjoinsel, MERGES);
+CREATE OPERATOR #= (LEFTARG = semver, RIGHTARG = semver, FUNCTION = semver_precedence_eq, COMMUTATOR = #=, NEGATOR = #<>, RESTRICT = eqsel, JOIN = eqjoinsel, HASHES, MERGES);
 CREATE OPERATOR #>= (LEFTARG = semver, RIGHTARG = semver, FUNCTION = semver_precedence_ge, COMMUTATOR = #<=, NEGATOR = #<, RESTRICT = scalargesel, JOIN = scalargejoinsel);
 CREATE OPERATOR #> (LEFTARG = semver, RIGHTARG = semver, FUNCTION = semver_precedence_gt, COMMUTATOR = #<, NEGATOR = #<=, RESTRICT = scalargtsel, JOIN = scalargtjoinsel);
 CREATE OPERATOR #<> (LEFTARG = semver, RIGHTARG = semver, FUNCTION = semver_precedence_ne, COMMUTATOR = #<>, NEGATOR = #=, RESTRICT = neqsel, JOIN = neqjoinsel);
-CREATE OPERATOR CLASS semver_precedence_ops FOR TYPE semver USING btree AS
-  OPERATOR 1 #<, OPERATOR 2 #<=, OPERATOR 3 #=, OPERATOR 4 #>=, OPERATOR 5 #>, FUNCTION 1 semver_compare(semver, semver);
 COMMENT ON FUNCTION semver_compare(semver, semver) IS '-1, 0 or 1: the order by precedence, which ignores builds';
+
+CREATE FUNCTION semver_precedence_sortsupport(internal) RETURNS void AS 'MODULE_PATHNAME', 'deno_semver_precedence_sortsupport'
+  LANGUAGE C IMMUTABLE STRICT PARALLEL SAFE;
+CREATE FUNCTION semver_precedence_hash(semver) RETURNS integer AS 'MODULE_PATHNAME', 'deno_semver_precedence_hash'
+  LANGUAGE C IMMUTABLE STRICT PARALLEL SAFE;
+CREATE FUNCTION semver_precedence_hash_extended(semver, bigint) RETURNS bigint AS 'MODULE_PATHNAME', 'deno_semver_precedence_hash_extended'
+  LANGUAGE C IMMUTABLE STRICT PARALLEL SAFE;
+CREATE OPERATOR CLASS semver_precedence_ops FOR TYPE semver USING btree AS
+  OPERATOR 1 #<, OPERATOR 2 #<=, OPERATOR 3 #=, OPERATOR 4 #>=, OPERATOR 5 #>,
+  FUNCTION 1 semver_compare(semver, semver), FUNCTION 2 semver_precedence_sortsupport(internal);
+CREATE OPERATOR CLASS semver_precedence_ops FOR TYPE semver USING hash AS
+  OPERATOR 1 #=, FUNCTION 1 semver_precedence_hash(semver), FUNCTION 2 semver_precedence_hash_extended(semver, bigint);
+COMMENT ON OPERATOR CLASS semver_precedence_ops USING btree IS 'the order by precedence, which ignores builds';
+COMMENT ON OPERATOR CLASS semver_precedence_ops USING hash IS 'equality by precedence, which ignores builds';
 
 CREATE FUNCTION semver_larger(semver, semver) RETURNS semver AS 'MODULE_PATHNAME', 'deno_semver_larger'
   LANGUAGE C IMMUTABLE STRICT PARALLEL SAFE;
@@ -229,10 +243,45 @@ CREATE FUNCTION semver_smaller(semver, semver) RETURNS semver AS 'MODULE_PATHNAM
 CREATE AGGREGATE max(semver) (SFUNC = semver_larger, STYPE = semver, COMBINEFUNC = semver_larger, SORTOP = >, PARALLEL = SAFE);
 CREATE AGGREGATE min(semver) (SFUNC = semver_smaller, STYPE = semver, COMBINEFUNC = semver_smaller, SORTOP = <, PARALLEL = SAFE);
 
+-- ---- the order of ranges
+
+CREATE FUNCTION semver_range_lt(semver_range, semver_range) RETURNS boolean AS 'MODULE_PATHNAME', 'deno_semver_range_lt'
+  LANGUAGE C IMMUTABLE STRICT PARALLEL SAFE COST 10;
+CREATE FUNCTION semver_range_le(semver_range, semver_range) RETURNS boolean AS 'MODULE_PATHNAME', 'deno_semver_range_le'
+  LANGUAGE C IMMUTABLE STRICT PARALLEL SAFE COST 10;
+CREATE FUNCTION semver_range_eq(semver_range, semver_range) RETURNS boolean AS 'MODULE_PATHNAME', 'deno_semver_range_eq'
+  LANGUAGE C IMMUTABLE STRICT PARALLEL SAFE COST 10;
+CREATE FUNCTION semver_range_ne(semver_range, semver_range) RETURNS boolean AS 'MODULE_PATHNAME', 'deno_semver_range_ne'
+  LANGUAGE C IMMUTABLE STRICT PARALLEL SAFE COST 10;
+CREATE FUNCTION semver_range_ge(semver_range, semver_range) RETURNS boolean AS 'MODULE_PATHNAME', 'deno_semver_range_ge'
+  LANGUAGE C IMMUTABLE STRICT PARALLEL SAFE COST 10;
+CREATE FUNCTION semver_range_gt(semver_range, semver_range) RETURNS boolean AS 'MODULE_PATHNAME', 'deno_semver_range_gt'
+  LANGUAGE C IMMUTABLE STRICT PARALLEL SAFE COST 10;
+CREATE FUNCTION semver_range_cmp(semver_range, semver_range) RETURNS integer AS 'MODULE_PATHNAME', 'deno_semver_range_cmp'
+  LANGUAGE C IMMUTABLE STRICT PARALLEL SAFE COST 10;
+CREATE FUNCTION semver_range_hash(semver_range) RETURNS integer AS 'MODULE_PATHNAME', 'deno_semver_range_hash'
+  LANGUAGE C IMMUTABLE STRICT PARALLEL SAFE;
+CREATE FUNCTION semver_range_hash_extended(semver_range, bigint) RETURNS bigint AS 'MODULE_PATHNAME', 'deno_semver_range_hash_extended'
+  LANGUAGE C IMMUTABLE STRICT PARALLEL SAFE;
+CREATE OPERATOR < (LEFTARG = semver_range, RIGHTARG = semver_range, FUNCTION = semver_range_lt, COMMUTATOR = >, NEGATOR = >=, RESTRICT = scalarltsel, JOIN = scalarltjoinsel);
+CREATE OPERATOR <= (LEFTARG = semver_range, RIGHTARG = semver_range, FUNCTION = semver_range_le, COMMUTATOR = >=, NEGATOR = >, RESTRICT = scalarlesel, JOIN = scalarlejoinsel);
+CREATE OPERATOR = (LEFTARG = semver_range, RIGHTARG = semver_range, FUNCTION = semver_range_eq, COMMUTATOR = =, NEGATOR = <>, RESTRICT = eqsel, JOIN = eqjoinsel, HASHES, MERGES);
+CREATE OPERATOR <> (LEFTARG = semver_range, RIGHTARG = semver_range, FUNCTION = semver_range_ne, COMMUTATOR = <>, NEGATOR = =, RESTRICT = neqsel, JOIN = neqjoinsel);
+CREATE OPERATOR >= (LEFTARG = semver_range, RIGHTARG = semver_range, FUNCTION = semver_range_ge, COMMUTATOR = <=, NEGATOR = <, RESTRICT = scalargesel, JOIN = scalargejoinsel);
+CREATE OPERATOR > (LEFTARG = semver_range, RIGHTARG = semver_range, FUNCTION = semver_range_gt, COMMUTATOR = <, NEGATOR = <=, RESTRICT = scalargtsel, JOIN = scalargtjoinsel);
+COMMENT ON OPERATOR = (semver_range, semver_range) IS 'both have the same alternatives, written as they may be';
+-- Equal ranges may be different strings, so an index keeps each.
+CREATE OPERATOR CLASS semver_range_ops DEFAULT FOR TYPE semver_range USING btree AS
+  OPERATOR 1 <, OPERATOR 2 <=, OPERATOR 3 =, OPERATOR 4 >=, OPERATOR 5 >, FUNCTION 1 semver_range_cmp(semver_range, semver_range);
+CREATE OPERATOR CLASS semver_range_ops DEFAULT FOR TYPE semver_range USING hash AS
+  OPERATOR 1 =, FUNCTION 1 semver_range_hash(semver_range), FUNCTION 2 semver_range_hash_extended(semver_range, bigint);
+
 -- ---- matching
 
-CREATE FUNCTION semver_support(internal) RETURNS internal AS 'MODULE_PATHNAME', 'deno_semver_support' LANGUAGE C STRICT;
-CREATE FUNCTION semver_is_within_support(internal) RETURNS internal AS 'MODULE_PATHNAME', 'deno_semver_is_within_support' LANGUAGE C STRICT;
+CREATE FUNCTION semver_support(internal) RETURNS internal AS 'MODULE_PATHNAME', 'deno_semver_support'
+  LANGUAGE C IMMUTABLE STRICT PARALLEL SAFE;
+CREATE FUNCTION semver_is_within_support(internal) RETURNS internal AS 'MODULE_PATHNAME', 'deno_semver_is_within_support'
+  LANGUAGE C IMMUTABLE STRICT PARALLEL SAFE;
 CREATE FUNCTION semver_within(semver, semver_range) RETURNS boolean AS 'MODULE_PATHNAME', 'deno_semver_within'
   LANGUAGE C IMMUTABLE STRICT PARALLEL SAFE SUPPORT semver_support;
 CREATE FUNCTION semver_contains(semver_range, semver) RETURNS boolean AS 'MODULE_PATHNAME', 'deno_semver_contains'

@@ -1,8 +1,13 @@
 /* SPDX-License-Identifier: MIT */
-/* What the files of the extension share: strings, errors, and how versions and ranges are stored.
+/*
+ * deno_semver.h
+ *		What the files of the extension share: strings, errors, and how versions
+ *		and ranges are stored.
  *
- * The library never calls back, so no error of PostgreSQL passes its frames. What it holds is memory of malloc, so nothing may raise an
- * error while a handle is full, unless the handle is freed then. */
+ * The library never calls back, so no error of PostgreSQL passes its frames.
+ * What it holds is memory of malloc, so nothing may raise an error while a
+ * handle is full, unless the handle is freed then.
+ */
 #ifndef DENO_SEMVER_H
 #define DENO_SEMVER_H
 
@@ -19,17 +24,29 @@
 #pragma GCC visibility push(hidden)
 
 /* A string in UTF-8. */
-typedef struct {
-    const char *at;
-    size_t len;
+typedef struct
+{
+	const char *at;
+	size_t		len;
 } sv_string;
+
+static inline sv_string
+sv_string_of(const char *at, size_t len)
+{
+	sv_string	string = {at, len};
+
+	return string;
+}
 
 #define SV_BYTES(string) (string).at, (string).len
 
 /* What a call of the library writes. */
-typedef struct {
-    char near[256], *at;
-    size_t room, len;
+typedef struct
+{
+	char		near[256];
+	char	   *at;
+	size_t		room;
+	size_t		len;
 } sv_written;
 
 extern void sv_begin(sv_written *it);
@@ -39,57 +56,93 @@ extern bool sv_must_repeat(sv_written *it);
 
 /* Calls, and once more with a larger buffer if what the call writes is long. */
 #define SV_WRITES(code, it, call) \
-    do {                          \
-        sv_begin(it);             \
-        do (code) = (call);       \
-        while (sv_must_repeat(it)); \
-    } while (0)
+	do { \
+		sv_begin(it); \
+		do { \
+			(code) = (call); \
+		} while (sv_must_repeat(it)); \
+	} while (0)
 
-/* A string of the database's encoding in UTF-8, and back. That of a text may have no zero byte behind it, and is copied only if it must be. */
+/*
+ * A string of the database's encoding in UTF-8, and back.  That of a text may
+ * have no zero byte behind it, and is copied only if it must be.
+ */
 extern sv_string sv_utf8(const char *string);
 extern sv_string sv_utf8_of(const text *string);
 extern const char *sv_server(const char *utf8, size_t len);
 extern text *sv_text(const char *utf8, size_t len);
 
-/* Errors. With a context that takes soft errors, of PostgreSQL 16, they return. */
+/*
+ * Errors.  With a context that takes soft errors, of PostgreSQL 16, all but
+ * the last return.
+ */
 extern void sv_reject_version(Node *context, sv_string version, int32_t code);
-extern void sv_reject_range(Node *context, uint32_t grammar, sv_string range, int32_t code);
+extern void sv_reject_range(Node *context, uint32_t grammar, sv_string range,
+							int32_t code);
 extern void sv_reject_bound(Node *context, const char *bound);
 extern bool sv_is_long_version(Node *context, sv_string version);
 extern bool sv_is_long_range(Node *context, sv_string range);
+extern void sv_reject_stored(const char *what);
 
 /* The grammar of this name. */
 extern uint32_t sv_grammar(const text *name);
 
-/* ---- semver: the sort key, a zero byte, and the version as displayed
+/*
+ * semver: the sort key, a zero byte, and the version as displayed.
+ * semver_bound: a key, or the bound of a scan, and a zero byte.
  *
- * A zero byte is below each byte of a key, so strcmp compares keys. */
-
-extern sv_string sv_version_key(const struct varlena *version);
+ * A zero byte is below each byte of a key, so the keys compare by memcmp with
+ * the zero byte behind them, and a bound stands below each version of its key.
+ */
+extern sv_string sv_key(const struct varlena *stored);
 extern sv_string sv_version_string(const struct varlena *version);
-
-/* A number of a key is a letter and digits, A for one digit. Behind the three a pre-release has a hyphen, and a release a tilde. */
-static inline bool sv_is_pre(const char *key) {
-    for (int number = 0; number < 3; number++) key += *key - 'A' + 2;
-    return *key == '-';
-}
-
-/* ---- semver_bound: a key, or the bound of a scan, and a zero byte. It stands below each version of the same key. */
-
+extern bool sv_is_pre(sv_string key);
 extern struct varlena *sv_bound(const char *key);
 
-/* ---- semver_range: its scans and its text; range.c says how they are laid out */
-
-typedef struct {
-    const char *data;
-    uint32_t releases, count; /* of the scans, the first are about releases */
+/*
+ * semver_range: its scans, its text and its canonical form; range.c says how
+ * they are laid out.
+ */
+typedef struct
+{
+	const char *data;
+	size_t		size;
+	uint32_t	releases;		/* the first scans are about releases */
+	uint32_t	count;			/* of all scans */
 } sv_scans;
 
 extern sv_scans sv_scans_of(const struct varlena *range);
 extern const char *sv_low(const sv_scans *scans, uint32_t index);
 extern const char *sv_high(const sv_scans *scans, uint32_t index);
-extern void sv_hull(const struct varlena *range, const char **low, const char **high);
+extern void sv_hull(const struct varlena *range, const char **low,
+					const char **high);
+
+/* The functions of an order, and each of them. */
+#define SV_COMPARES(name, order, result) \
+	PG_FUNCTION_INFO_V1(name); \
+	Datum \
+	name(PG_FUNCTION_ARGS) \
+	{ \
+		struct varlena *one = PG_GETARG_VARLENA_PP(0); \
+		struct varlena *other = PG_GETARG_VARLENA_PP(1); \
+		int			is = order(one, other); \
+		\
+		PG_FREE_IF_COPY(one, 0); \
+		PG_FREE_IF_COPY(other, 1); \
+		result; \
+	}
+
+#define SV_ORDER(name, order) \
+	SV_COMPARES(name##_lt, order, PG_RETURN_BOOL(is < 0)) \
+	SV_COMPARES(name##_le, order, PG_RETURN_BOOL(is <= 0)) \
+	SV_COMPARES(name##_ge, order, PG_RETURN_BOOL(is >= 0)) \
+	SV_COMPARES(name##_gt, order, PG_RETURN_BOOL(is > 0)) \
+	SV_COMPARES(name##_cmp, order, PG_RETURN_INT32((is > 0) - (is < 0)))
+
+#define SV_EQUALITY(name, equal) \
+	SV_COMPARES(name##_eq, equal, PG_RETURN_BOOL(is)) \
+	SV_COMPARES(name##_ne, equal, PG_RETURN_BOOL(!is))
 
 #pragma GCC visibility pop
 
-#endif
+#endif							/* DENO_SEMVER_H */

@@ -1,7 +1,7 @@
 #!/bin/sh
 # Builds the extension over the C library, installs it into a copy of PostgreSQL below a temporary folder, and tests it in a server of its own,
 # which listens on a socket there and nowhere else: `make installcheck` in databases of three encodings, then what storage.sql asks, a dump that
-# is restored, an update to a next version, pg_upgrade, random matches (check.py), a session that runs out of memory, and calls by the million,
+# is restored, an update to a next version, pg_upgrade, the setting, random matches (check.py), a session that runs out of memory, and calls by the million,
 # whose memory must stay. It stops at the first failure.
 #
 # usage: test.sh FOLDER    FOLDER has lib/libdeno_semver.a and include/deno_semver/semver.h, as make install makes them; a server doesn't run as root, so then
@@ -44,7 +44,7 @@ bytes() {
 regress() {
     for options in "'UTF8' locale_provider icu icu_locale 'en-US'" "'LATIN1' locale_provider libc" "'SQL_ASCII' locale_provider libc"; do
         query postgres "create database contrib_regression template template0 locale 'C' encoding $options"
-        make -s -C "$root/extension" installcheck EXTRA_REGRESS_OPTS="--bindir=$bin --use-existing" >"$root/regress.log" 2>&1 ||
+        PGOPTIONS= make -s -C "$root/extension" installcheck EXTRA_REGRESS_OPTS="--bindir=$bin --use-existing" >"$root/regress.log" 2>&1 ||
             fail "$(cat "$root/regress.log" "$root/extension/regression.diffs")"
         echo "PostgreSQL: $(grep -c '^ok\|\.\.\. ok' "$root/regress.log") files, encoding $options"
         case $options in *SQL_ASCII*) bytes ;; esac
@@ -74,6 +74,8 @@ dump() {
             "$bin/pg_restore" -e -d restored "$root/dump"
         fi
         expect "$(query stored "$every")" restored "$every"
+        for database in stored restored; do "$bin/pg_dump" -s -d $database | grep -v restrict >"$root/$database.sql"; done
+        cmp "$root/stored.sql" "$root/restored.sql"
         query postgres 'drop database restored'
     done
     echo "PostgreSQL: version $(query stored "$version") dumped and restored"
@@ -102,8 +104,18 @@ upgrade() {
     cd "$postgres"
     start -c autovacuum=off
     expect "$before" stored "$every"
-    expect 7 stored 'select * from checked'
+    expect 11 stored 'select * from checked'
     echo 'PostgreSQL: upgraded by pg_upgrade'
+}
+
+# The limit of versions is the server's, in its file of settings: no session sets another one, also before the library is there.
+limit() {
+    long="select length(('1.0.0-' || repeat('a', 300))::semver::text)"
+    rejects 'string is too long for type semver (306 bytes, maximum 256)' stored "set deno_semver.max_length = 400; $long"
+    rejects 'parameter "deno_semver.max_length" cannot be changed now' stored "select semver_try('1.0.0'); set deno_semver.max_length = 400"
+    echo 'deno_semver.max_length = 400' >>"$root/data/postgresql.conf"
+    run as_owner "$bin/pg_ctl" -D "$root/data" -w restart -o "-k $PGHOST -c listen_addresses= -c fsync=off -c autovacuum=off"
+    expect 306 stored "$long"
 }
 
 # The example, whose lines are those of other languages.
@@ -140,16 +152,24 @@ memory() { # KIND
     awk "/^$1:/ { print \$2 }" "/proc/$pid/status"
 }
 
-# The address space may grow by a megabyte. The library needs more, and the next question is answered.
+# The address space of a session may grow, by more each time, until there is an answer. Before that memory runs out, also in the library, whose error
+# has no detail, and the next question is answered.
 run_out() {
-    session stored
-    as_owner prlimit --pid "$pid" --as=$((1024 * ($(memory VmSize) + 1024)))
-    echo "select repeat('1 || ', 10000)::semver_range;" >&3
-    tell "select '1.2.3' <@ semver_range '^1';"
-    [ "$answer" = t ] || fail "after an error 1.2.3 <@ ^1 is $answer"
-    end_session
-    [ "$(cat "$root/errors")" = 'ERROR:  out of memory' ] || fail "without memory the error is $(cat "$root/errors")"
-    echo 'PostgreSQL: out of memory, and then an answer'
+    library=0
+    for growth in $(seq 256 256 65536); do
+        session stored
+        tell "select '1.2.3' <@ semver_range '^1';"
+        as_owner prlimit --pid "$pid" --as=$((1024 * ($(memory VmSize) + growth)))
+        echo "select length(repeat('1 || ', 10000)::semver_range::text);" >&3
+        tell "select '1.2.3' <@ semver_range '^1';"
+        end_session
+        [ "$answer" = t ] || break
+        [ "$(head -n 1 "$root/errors")" = 'ERROR:  out of memory' ] || fail "without memory the error is $(cat "$root/errors")"
+        grep -q DETAIL "$root/errors" || library=$((library + 1))
+    done
+    [ "$answer" = 50000 ] || fail "after an error the answer is $answer"
+    [ $library -gt 0 ] || fail 'memory runs out nowhere in the library'
+    echo "PostgreSQL: out of memory $((growth / 256 - 1)) times, $library in the library, and then an answer"
 }
 
 # Ten million calls, and errors that are caught, in one session, whose memory may grow by four megabytes.
@@ -182,6 +202,7 @@ dump
 update
 dump
 upgrade
+limit
 python3 "$postgres/check.py" "$bin/psql"
 resolve
 run_out

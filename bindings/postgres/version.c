@@ -1,5 +1,8 @@
 /* SPDX-License-Identifier: MIT */
-/* The type semver, bounds of scans, and their orders. */
+/*
+ * version.c
+ *		The type semver, bounds of scans, and their orders.
+ */
 #include "deno_semver.h"
 
 #include "common/hashfn.h"
@@ -7,281 +10,513 @@
 #include "utils/builtins.h"
 #include "utils/sortsupport.h"
 
-enum { MOST_TRIED = 256 };
+/* The longest version that semver_try takes, as node-semver. */
+#define MOST_TRIED 256
 
-enum { FORMAT = 1 }; /* of what is sent: the version as displayed follows, or the key of a bound */
+/* What is sent: the format, and the version as displayed, or the key of a bound. */
+#define FORMAT 1
 
-/* ---- input and output */
+/* ---- what is stored */
+
+/*
+ * The key of a version, or of a bound.  The bytes are those of the disk, or of
+ * who may cast to the type without a function.
+ */
+sv_string
+sv_key(const struct varlena *stored)
+{
+	const char *at = VARDATA_ANY(stored);
+	const char *end = memchr(at, 0, VARSIZE_ANY_EXHDR(stored));
+
+	if (end == NULL)
+		sv_reject_stored("sort key");
+	return sv_string_of(at, end - at);
+}
+
+sv_string
+sv_version_string(const struct varlena *version)
+{
+	sv_string	key = sv_key(version);
+
+	return sv_string_of(key.at + key.len + 1,
+						VARSIZE_ANY_EXHDR(version) - key.len - 1);
+}
+
+/*
+ * Whether a key is that of a pre-release.  A number is a letter and digits, A
+ * for one digit.  Behind the three a pre-release has a hyphen, and a release a
+ * tilde.
+ */
+bool
+sv_is_pre(sv_string key)
+{
+	size_t		at = 0;
+
+	for (int number = 0; number < 3 && at < key.len; number++)
+	{
+		if (key.at[at] < 'A' || key.at[at] > 'Z')
+			sv_reject_stored("sort key");
+		at += key.at[at] - 'A' + 2;
+	}
+	if (at >= key.len)
+		sv_reject_stored("sort key");
+	return key.at[at] == '-';
+}
 
 /* Makes what is stored of a version, if it is one. */
-static int32_t make(sv_string version, struct varlena **made) {
-    static semver_ver held; /* the last version, so that no error loses it */
-    sv_written shown, key;
-    int32_t code;
-    SV_WRITES(code, &shown, semver_version_read(SV_BYTES(version), &held, SV_OUT(&shown)));
-    if (code != SEMVER_YES) return code;
-    SV_WRITES(code, &key, semver_version_key(&held, SV_OUT(&key)));
-    if (code != SEMVER_YES) return code;
-    *made = palloc(VARHDRSZ + key.len + 1 + shown.len);
-    SET_VARSIZE(*made, VARHDRSZ + key.len + 1 + shown.len);
-    memcpy(VARDATA(*made), key.at, key.len);
-    VARDATA(*made)[key.len] = 0;
-    memcpy(VARDATA(*made) + key.len + 1, shown.at, shown.len);
-    return code;
+static int32_t
+make_version(sv_string version, struct varlena **made)
+{
+	static semver_ver held;		/* the last version, so that no error loses it */
+	sv_written	shown;
+	sv_written	key;
+	int32_t		code;
+	size_t		size;
+
+	SV_WRITES(code, &shown, semver_version_read(SV_BYTES(version), &held,
+												SV_OUT(&shown)));
+	if (code != SEMVER_YES)
+		return code;
+	SV_WRITES(code, &key, semver_version_key(&held, SV_OUT(&key)));
+	if (code != SEMVER_YES)
+		return code;
+	size = VARHDRSZ + key.len + 1 + shown.len;
+	*made = palloc(size);
+	SET_VARSIZE(*made, size);
+	memcpy(VARDATA(*made), key.at, key.len);
+	VARDATA(*made)[key.len] = 0;
+	memcpy(VARDATA(*made) + key.len + 1, shown.at, shown.len);
+	return code;
 }
 
 /* Reads a version; NULL if it is invalid, and that is a soft error. */
-static struct varlena *read_version(Node *context, sv_string version) {
-    struct varlena *made = NULL;
-    if (sv_is_long_version(context, version)) return NULL;
-    int32_t code = make(version, &made);
-    if (code != SEMVER_YES) sv_reject_version(context, version, code);
-    return made;
+static struct varlena *
+read_version(Node *context, sv_string version)
+{
+	struct varlena *made = NULL;
+	int32_t		code;
+
+	if (sv_is_long_version(context, version))
+		return NULL;
+	code = make_version(version, &made);
+	if (code != SEMVER_YES)
+		sv_reject_version(context, version, code);
+	return made;
 }
 
-sv_string sv_version_key(const struct varlena *version) {
-    return (sv_string){VARDATA_ANY(version), strlen(VARDATA_ANY(version))};
+struct varlena *
+sv_bound(const char *key)
+{
+	size_t		size = strlen(key) + 1;
+	struct varlena *bound = palloc(VARHDRSZ + size);
+
+	SET_VARSIZE(bound, VARHDRSZ + size);
+	memcpy(VARDATA(bound), key, size);
+	return bound;
 }
 
-sv_string sv_version_string(const struct varlena *version) {
-    size_t key = strlen(VARDATA_ANY(version)) + 1;
-    return (sv_string){VARDATA_ANY(version) + key, VARSIZE_ANY_EXHDR(version) - key};
+/*
+ * Reads a bound, which has the bytes of keys; NULL if it has others, and that
+ * is a soft error.
+ */
+static struct varlena *
+read_bound(Node *context, const char *bound)
+{
+	for (const char *at = bound; *at; at++)
+	{
+		if (*at >= '!' && *at <= '~')
+			continue;
+		sv_reject_bound(context, bound);
+		return NULL;
+	}
+	return sv_bound(bound);
 }
+
+/* ---- input and output */
 
 PG_FUNCTION_INFO_V1(deno_semver_in);
-Datum deno_semver_in(PG_FUNCTION_ARGS) {
-    struct varlena *version = read_version(fcinfo->context, sv_utf8(PG_GETARG_CSTRING(0)));
-    if (!version) PG_RETURN_NULL();
-    PG_RETURN_POINTER(version);
+Datum
+deno_semver_in(PG_FUNCTION_ARGS)
+{
+	sv_string	string = sv_utf8(PG_GETARG_CSTRING(0));
+	struct varlena *version = read_version(fcinfo->context, string);
+
+	if (version == NULL)
+		PG_RETURN_NULL();
+	PG_RETURN_POINTER(version);
 }
 
 PG_FUNCTION_INFO_V1(deno_semver_out);
-Datum deno_semver_out(PG_FUNCTION_ARGS) {
-    sv_string shown = sv_version_string(PG_GETARG_VARLENA_PP(0));
-    PG_RETURN_CSTRING(pnstrdup(shown.at, shown.len));
+Datum
+deno_semver_out(PG_FUNCTION_ARGS)
+{
+	sv_string	shown = sv_version_string(PG_GETARG_VARLENA_PP(0));
+
+	PG_RETURN_CSTRING(pnstrdup(shown.at, shown.len));
+}
+
+/* What is received behind the byte for the format. */
+static char *
+received(StringInfo message, const char *type)
+{
+	int			format = pq_getmsgbyte(message);
+	int			len;
+
+	if (format != FORMAT)
+		ereport(ERROR,
+				(errcode(ERRCODE_INVALID_BINARY_REPRESENTATION),
+				 errmsg("unsupported format %d of a %s", format, type)));
+	return pq_getmsgtext(message, message->len - message->cursor, &len);
+}
+
+static bytea *
+sent(const char *at, size_t len)
+{
+	StringInfoData message;
+
+	pq_begintypsend(&message);
+	pq_sendbyte(&message, FORMAT);
+	pq_sendtext(&message, at, (int) len);
+	return pq_endtypsend(&message);
 }
 
 PG_FUNCTION_INFO_V1(deno_semver_recv);
-Datum deno_semver_recv(PG_FUNCTION_ARGS) {
-    StringInfo message = (StringInfo)PG_GETARG_POINTER(0);
-    int format = pq_getmsgbyte(message), len;
-    if (format != FORMAT) ereport(ERROR, errcode(ERRCODE_INVALID_BINARY_REPRESENTATION), errmsg("unsupported format %d of a semver", format));
-    char *version = pq_getmsgtext(message, message->len - message->cursor, &len);
-    PG_RETURN_POINTER(read_version(NULL, sv_utf8(version)));
+Datum
+deno_semver_recv(PG_FUNCTION_ARGS)
+{
+	char	   *version = received((StringInfo) PG_GETARG_POINTER(0), "semver");
+
+	PG_RETURN_POINTER(read_version(NULL, sv_utf8(version)));
 }
 
 PG_FUNCTION_INFO_V1(deno_semver_send);
-Datum deno_semver_send(PG_FUNCTION_ARGS) {
-    sv_string shown = sv_version_string(PG_GETARG_VARLENA_PP(0));
-    StringInfoData message;
-    pq_begintypsend(&message);
-    pq_sendbyte(&message, FORMAT);
-    pq_sendtext(&message, shown.at, (int)shown.len);
-    PG_RETURN_BYTEA_P(pq_endtypsend(&message));
-}
+Datum
+deno_semver_send(PG_FUNCTION_ARGS)
+{
+	sv_string	shown = sv_version_string(PG_GETARG_VARLENA_PP(0));
 
-/* The version of a text, or NULL if it is none, or too long for npm: whatever the settings, since an index may have it. */
-PG_FUNCTION_INFO_V1(deno_semver_try);
-Datum deno_semver_try(PG_FUNCTION_ARGS) {
-    sv_string version = sv_utf8_of(PG_GETARG_TEXT_PP(0));
-    struct varlena *made = NULL;
-    if (version.len > MOST_TRIED) PG_RETURN_NULL();
-    int32_t code = make(version, &made);
-    if (code == SEMVER_INVALID_VERSION || code == SEMVER_NOT_UTF8) PG_RETURN_NULL();
-    if (code != SEMVER_YES) sv_reject_version(NULL, version, code);
-    PG_RETURN_POINTER(made);
-}
-
-PG_FUNCTION_INFO_V1(deno_semver_key);
-Datum deno_semver_key(PG_FUNCTION_ARGS) {
-    sv_string key = sv_version_key(PG_GETARG_VARLENA_PP(0));
-    PG_RETURN_TEXT_P(cstring_to_text_with_len(key.at, (int)key.len));
-}
-
-PG_FUNCTION_INFO_V1(deno_semver_is_pre);
-Datum deno_semver_is_pre(PG_FUNCTION_ARGS) {
-    PG_RETURN_BOOL(sv_is_pre(VARDATA_ANY(PG_GETARG_VARLENA_PP(0))));
-}
-
-struct varlena *sv_bound(const char *key) {
-    size_t size = strlen(key) + 1;
-    struct varlena *bound = palloc(VARHDRSZ + size);
-    SET_VARSIZE(bound, VARHDRSZ + size);
-    memcpy(VARDATA(bound), key, size);
-    return bound;
-}
-
-/* Reads a bound, which has the bytes of keys; NULL if it has others, and that is a soft error. */
-static struct varlena *read_bound(Node *context, const char *bound) {
-    for (const char *at = bound; *at; at++) {
-        if (*at >= '!' && *at <= '~') continue;
-        sv_reject_bound(context, bound);
-        return NULL;
-    }
-    return sv_bound(bound);
+	PG_RETURN_BYTEA_P(sent(SV_BYTES(shown)));
 }
 
 PG_FUNCTION_INFO_V1(deno_semver_bound_in);
-Datum deno_semver_bound_in(PG_FUNCTION_ARGS) {
-    struct varlena *bound = read_bound(fcinfo->context, PG_GETARG_CSTRING(0));
-    if (!bound) PG_RETURN_NULL();
-    PG_RETURN_POINTER(bound);
+Datum
+deno_semver_bound_in(PG_FUNCTION_ARGS)
+{
+	struct varlena *bound = read_bound(fcinfo->context, PG_GETARG_CSTRING(0));
+
+	if (bound == NULL)
+		PG_RETURN_NULL();
+	PG_RETURN_POINTER(bound);
 }
 
 PG_FUNCTION_INFO_V1(deno_semver_bound_out);
-Datum deno_semver_bound_out(PG_FUNCTION_ARGS) {
-    PG_RETURN_CSTRING(pstrdup(VARDATA_ANY(PG_GETARG_VARLENA_PP(0))));
+Datum
+deno_semver_bound_out(PG_FUNCTION_ARGS)
+{
+	sv_string	key = sv_key(PG_GETARG_VARLENA_PP(0));
+
+	PG_RETURN_CSTRING(pnstrdup(key.at, key.len));
 }
 
 PG_FUNCTION_INFO_V1(deno_semver_bound_recv);
-Datum deno_semver_bound_recv(PG_FUNCTION_ARGS) {
-    StringInfo message = (StringInfo)PG_GETARG_POINTER(0);
-    int format = pq_getmsgbyte(message), len;
-    if (format != FORMAT) ereport(ERROR, errcode(ERRCODE_INVALID_BINARY_REPRESENTATION), errmsg("unsupported format %d of a semver_bound", format));
-    PG_RETURN_POINTER(read_bound(NULL, pq_getmsgtext(message, message->len - message->cursor, &len)));
+Datum
+deno_semver_bound_recv(PG_FUNCTION_ARGS)
+{
+	char	   *bound = received((StringInfo) PG_GETARG_POINTER(0), "semver_bound");
+
+	PG_RETURN_POINTER(read_bound(NULL, bound));
 }
 
 PG_FUNCTION_INFO_V1(deno_semver_bound_send);
-Datum deno_semver_bound_send(PG_FUNCTION_ARGS) {
-    const char *key = VARDATA_ANY(PG_GETARG_VARLENA_PP(0));
-    StringInfoData message;
-    pq_begintypsend(&message);
-    pq_sendbyte(&message, FORMAT);
-    pq_sendtext(&message, key, (int)strlen(key));
-    PG_RETURN_BYTEA_P(pq_endtypsend(&message));
+Datum
+deno_semver_bound_send(PG_FUNCTION_ARGS)
+{
+	sv_string	key = sv_key(PG_GETARG_VARLENA_PP(0));
+
+	PG_RETURN_BYTEA_P(sent(SV_BYTES(key)));
+}
+
+/*
+ * The version of a text, or NULL if it is none, or too long for npm: whatever
+ * the settings, since an index may have it.
+ */
+PG_FUNCTION_INFO_V1(deno_semver_try);
+Datum
+deno_semver_try(PG_FUNCTION_ARGS)
+{
+	sv_string	version = sv_utf8_of(PG_GETARG_TEXT_PP(0));
+	struct varlena *made = NULL;
+	int32_t		code;
+
+	if (version.len > MOST_TRIED)
+		PG_RETURN_NULL();
+	code = make_version(version, &made);
+	if (code == SEMVER_INVALID_VERSION || code == SEMVER_NOT_UTF8)
+		PG_RETURN_NULL();
+	if (code != SEMVER_YES)
+		sv_reject_version(NULL, version, code);
+	PG_RETURN_POINTER(made);
+}
+
+PG_FUNCTION_INFO_V1(deno_semver_key);
+Datum
+deno_semver_key(PG_FUNCTION_ARGS)
+{
+	sv_string	key = sv_key(PG_GETARG_VARLENA_PP(0));
+
+	PG_RETURN_TEXT_P(cstring_to_text_with_len(key.at, (int) key.len));
+}
+
+PG_FUNCTION_INFO_V1(deno_semver_is_pre);
+Datum
+deno_semver_is_pre(PG_FUNCTION_ARGS)
+{
+	PG_RETURN_BOOL(sv_is_pre(sv_key(PG_GETARG_VARLENA_PP(0))));
 }
 
 /* ---- orders */
 
-static int by_precedence(const struct varlena *one, const struct varlena *other) {
-    return strcmp(VARDATA_ANY(one), VARDATA_ANY(other));
+static int
+by_precedence(const struct varlena *one, const struct varlena *other)
+{
+	sv_string	a = sv_key(one);
+	sv_string	b = sv_key(other);
+
+	return memcmp(a.at, b.at, Min(a.len, b.len) + 1);
 }
 
-static bool is_same(const struct varlena *one, const struct varlena *other) {
-    size_t size = VARSIZE_ANY_EXHDR(one);
-    return size == VARSIZE_ANY_EXHDR(other) && memcmp(VARDATA_ANY(one), VARDATA_ANY(other), size) == 0;
+static bool
+same_precedence(const struct varlena *one, const struct varlena *other)
+{
+	return by_precedence(one, other) == 0;
+}
+
+/* Versions are the same if their bytes are. */
+static bool
+is_same(const struct varlena *one, const struct varlena *other)
+{
+	size_t		size = VARSIZE_ANY_EXHDR(one);
+
+	return size == VARSIZE_ANY_EXHDR(other) &&
+		memcmp(VARDATA_ANY(one), VARDATA_ANY(other), size) == 0;
 }
 
 /* The order of two versions of one precedence, which is that of their builds. */
-static int by_build(const struct varlena *one, const struct varlena *other) {
-    sv_string a = sv_version_string(one), b = sv_version_string(other);
-    semver_ver v = {0}, w = {0};
-    char none[1];
-    size_t needed;
-    int32_t code = semver_version_read(SV_BYTES(a), &v, none, 0, &needed);
-    if (code == SEMVER_YES) code = semver_version_read(SV_BYTES(b), &w, none, 0, &needed);
-    if (code == SEMVER_YES) code = semver_version_order(&v, &w);
-    semver_version_free(&v);
-    semver_version_free(&w);
-    if (code < 0) sv_reject_version(NULL, a, code);
-    return code - SEMVER_SAME;
+static int
+by_build(const struct varlena *one, const struct varlena *other)
+{
+	sv_string	a = sv_version_string(one);
+	sv_string	b = sv_version_string(other);
+	semver_ver	v = {0};
+	semver_ver	w = {0};
+	char		none[1];
+	size_t		needed;
+	int32_t		code;
+
+	code = semver_version_read(SV_BYTES(a), &v, none, 0, &needed);
+	if (code == SEMVER_YES)
+		code = semver_version_read(SV_BYTES(b), &w, none, 0, &needed);
+	if (code == SEMVER_YES)
+		code = semver_version_order(&v, &w);
+	semver_version_free(&v);
+	semver_version_free(&w);
+	if (code == SEMVER_NO_MEMORY)
+		sv_reject_version(NULL, a, code);
+	if (code < 0)
+		sv_reject_stored("semver");
+	return code - SEMVER_SAME;
 }
 
-/* The order of versions: by precedence and then by build, so that versions are equal if they are the same. */
-static int order(const struct varlena *one, const struct varlena *other) {
-    if (is_same(one, other)) return 0;
-    int by_key = by_precedence(one, other);
-    return by_key != 0 ? by_key : by_build(one, other);
+/* By precedence and then by build, so that versions are equal if they are the same. */
+static int
+by_version(const struct varlena *one, const struct varlena *other)
+{
+	int			by_key;
+
+	if (is_same(one, other))
+		return 0;
+	by_key = by_precedence(one, other);
+	return by_key != 0 ? by_key : by_build(one, other);
 }
 
 /* A bound stands below each version of the same key, so that it equals none. */
-static int version_with_bound(const struct varlena *version, const struct varlena *bound) {
-    return by_precedence(version, bound) < 0 ? -1 : 1;
+static int
+version_with_bound(const struct varlena *version, const struct varlena *bound)
+{
+	return by_precedence(version, bound) < 0 ? -1 : 1;
 }
 
-static int bound_with_version(const struct varlena *bound, const struct varlena *version) {
-    return -version_with_bound(version, bound);
+static int
+bound_with_version(const struct varlena *bound, const struct varlena *version)
+{
+	return -version_with_bound(version, bound);
 }
 
-/* The functions of an order. */
-#define COMPARES(name, order, result)                                                   \
-    PG_FUNCTION_INFO_V1(name);                                                          \
-    Datum name(PG_FUNCTION_ARGS) {                                                      \
-        struct varlena *one = PG_GETARG_VARLENA_PP(0), *other = PG_GETARG_VARLENA_PP(1); \
-        int is = order(one, other);                                                     \
-        PG_FREE_IF_COPY(one, 0);                                                        \
-        PG_FREE_IF_COPY(other, 1);                                                      \
-        result;                                                                         \
-    }
-#define ORDER(name, order)                                   \
-    COMPARES(name##_lt, order, PG_RETURN_BOOL(is < 0))        \
-    COMPARES(name##_le, order, PG_RETURN_BOOL(is <= 0))       \
-    COMPARES(name##_eq, order, PG_RETURN_BOOL(is == 0))       \
-    COMPARES(name##_ne, order, PG_RETURN_BOOL(is != 0))       \
-    COMPARES(name##_ge, order, PG_RETURN_BOOL(is >= 0))       \
-    COMPARES(name##_gt, order, PG_RETURN_BOOL(is > 0))        \
-    COMPARES(name##_cmp, order, PG_RETURN_INT32((is > 0) - (is < 0)))
+static bool
+never_equal(const struct varlena *one, const struct varlena *other)
+{
+	return false;
+}
 
-ORDER(deno_semver, order)
-ORDER(deno_semver_precedence, by_precedence)
-ORDER(deno_semver_with_bound, version_with_bound)
-ORDER(deno_semver_bound_with, bound_with_version)
-ORDER(deno_semver_bound, by_precedence)
+SV_ORDER(deno_semver, by_version)
+SV_EQUALITY(deno_semver, is_same)
+SV_ORDER(deno_semver_precedence, by_precedence)
+SV_EQUALITY(deno_semver_precedence, same_precedence)
+SV_ORDER(deno_semver_with_bound, version_with_bound)
+SV_EQUALITY(deno_semver_with_bound, never_equal)
+SV_ORDER(deno_semver_bound_with, bound_with_version)
+SV_EQUALITY(deno_semver_bound_with, never_equal)
+SV_ORDER(deno_semver_bound, by_precedence)
+SV_EQUALITY(deno_semver_bound, same_precedence)
 
 PG_FUNCTION_INFO_V1(deno_semver_larger);
-Datum deno_semver_larger(PG_FUNCTION_ARGS) {
-    bool is_first = order(PG_GETARG_VARLENA_PP(0), PG_GETARG_VARLENA_PP(1)) >= 0;
-    PG_RETURN_DATUM(PG_GETARG_DATUM(is_first ? 0 : 1));
+Datum
+deno_semver_larger(PG_FUNCTION_ARGS)
+{
+	int			is = by_version(PG_GETARG_VARLENA_PP(0), PG_GETARG_VARLENA_PP(1));
+
+	PG_RETURN_DATUM(PG_GETARG_DATUM(is >= 0 ? 0 : 1));
 }
 
 PG_FUNCTION_INFO_V1(deno_semver_smaller);
-Datum deno_semver_smaller(PG_FUNCTION_ARGS) {
-    bool is_first = order(PG_GETARG_VARLENA_PP(0), PG_GETARG_VARLENA_PP(1)) <= 0;
-    PG_RETURN_DATUM(PG_GETARG_DATUM(is_first ? 0 : 1));
+Datum
+deno_semver_smaller(PG_FUNCTION_ARGS)
+{
+	int			is = by_version(PG_GETARG_VARLENA_PP(0), PG_GETARG_VARLENA_PP(1));
+
+	PG_RETURN_DATUM(PG_GETARG_DATUM(is <= 0 ? 0 : 1));
 }
 
-/* Equal versions are the same bytes. */
+/* ---- hashes: of all bytes, and of the key alone */
+
 PG_FUNCTION_INFO_V1(deno_semver_hash);
-Datum deno_semver_hash(PG_FUNCTION_ARGS) {
-    struct varlena *version = PG_GETARG_VARLENA_PP(0);
-    Datum hash = hash_any((unsigned char *)VARDATA_ANY(version), VARSIZE_ANY_EXHDR(version));
-    PG_FREE_IF_COPY(version, 0);
-    return hash;
+Datum
+deno_semver_hash(PG_FUNCTION_ARGS)
+{
+	struct varlena *version = PG_GETARG_VARLENA_PP(0);
+	Datum		hash = hash_any((unsigned char *) VARDATA_ANY(version),
+								VARSIZE_ANY_EXHDR(version));
+
+	PG_FREE_IF_COPY(version, 0);
+	return hash;
 }
 
 PG_FUNCTION_INFO_V1(deno_semver_hash_extended);
-Datum deno_semver_hash_extended(PG_FUNCTION_ARGS) {
-    struct varlena *version = PG_GETARG_VARLENA_PP(0);
-    Datum hash = hash_any_extended((unsigned char *)VARDATA_ANY(version), VARSIZE_ANY_EXHDR(version), PG_GETARG_INT64(1));
-    PG_FREE_IF_COPY(version, 0);
-    return hash;
+Datum
+deno_semver_hash_extended(PG_FUNCTION_ARGS)
+{
+	struct varlena *version = PG_GETARG_VARLENA_PP(0);
+	Datum		hash = hash_any_extended((unsigned char *) VARDATA_ANY(version),
+										 VARSIZE_ANY_EXHDR(version),
+										 PG_GETARG_INT64(1));
+
+	PG_FREE_IF_COPY(version, 0);
+	return hash;
+}
+
+PG_FUNCTION_INFO_V1(deno_semver_precedence_hash);
+Datum
+deno_semver_precedence_hash(PG_FUNCTION_ARGS)
+{
+	struct varlena *version = PG_GETARG_VARLENA_PP(0);
+	sv_string	key = sv_key(version);
+	Datum		hash = hash_any((const unsigned char *) key.at, key.len);
+
+	PG_FREE_IF_COPY(version, 0);
+	return hash;
+}
+
+PG_FUNCTION_INFO_V1(deno_semver_precedence_hash_extended);
+Datum
+deno_semver_precedence_hash_extended(PG_FUNCTION_ARGS)
+{
+	struct varlena *version = PG_GETARG_VARLENA_PP(0);
+	sv_string	key = sv_key(version);
+	Datum		hash = hash_any_extended((const unsigned char *) key.at,
+										 key.len, PG_GETARG_INT64(1));
+
+	PG_FREE_IF_COPY(version, 0);
+	return hash;
 }
 
 /* ---- sorting: the first eight bytes of a key tell most versions apart */
 
-static int compare_for_sort(Datum one, Datum other, SortSupport support) {
-    struct varlena *a = PG_DETOAST_DATUM_PACKED(one), *b = PG_DETOAST_DATUM_PACKED(other);
-    int is = order(a, b);
-    if ((Pointer)a != DatumGetPointer(one)) pfree(a);
-    if ((Pointer)b != DatumGetPointer(other)) pfree(b);
-    return is;
+static inline int
+compare_stored(Datum one, Datum other,
+			   int (*order) (const struct varlena *, const struct varlena *))
+{
+	struct varlena *a = PG_DETOAST_DATUM_PACKED(one);
+	struct varlena *b = PG_DETOAST_DATUM_PACKED(other);
+	int			is = order(a, b);
+
+	if ((Pointer) a != DatumGetPointer(one))
+		pfree(a);
+	if ((Pointer) b != DatumGetPointer(other))
+		pfree(b);
+	return is;
 }
 
-static Datum abbreviate(Datum original, SortSupport support) {
-    struct varlena *version = PG_DETOAST_DATUM_PACKED(original);
-    const char *key = VARDATA_ANY(version);
-    uint64 first = 0;
-    for (int n = 0; n < 8; n++) {
-        first = first << 8 | (unsigned char)*key;
-        key += *key != 0;
-    }
-    if ((Pointer)version != DatumGetPointer(original)) pfree(version);
-    return UInt64GetDatum(first);
+static int
+compare_versions(Datum one, Datum other, SortSupport support)
+{
+	return compare_stored(one, other, by_version);
 }
 
-static bool never_abort(int count, SortSupport support) {
-    return false;
+static int
+compare_precedence(Datum one, Datum other, SortSupport support)
+{
+	return compare_stored(one, other, by_precedence);
+}
+
+/* The first bytes of the key, as a number that compares as they do. */
+static Datum
+abbreviate(Datum original, SortSupport support)
+{
+	struct varlena *version = PG_DETOAST_DATUM_PACKED(original);
+	sv_string	key = sv_key(version);
+	uint64		first = 0;
+
+	for (size_t n = 0; n < sizeof(first); n++)
+		first = first << 8 | (n < key.len ? (unsigned char) key.at[n] : 0);
+	if ((Pointer) version != DatumGetPointer(original))
+		pfree(version);
+	return UInt64GetDatum(first);
+}
+
+/* To abbreviate a key costs less than to compare two. */
+static bool
+never_abort(int count, SortSupport support)
+{
+	return false;
+}
+
+static void
+prepare_sort(SortSupport support, int (*compare) (Datum, Datum, SortSupport))
+{
+	support->comparator = compare;
+#if SIZEOF_DATUM == 8
+	if (support->abbreviate)
+	{
+		support->comparator = ssup_datum_unsigned_cmp;
+		support->abbrev_full_comparator = compare;
+		support->abbrev_converter = abbreviate;
+		support->abbrev_abort = never_abort;
+	}
+#endif
 }
 
 PG_FUNCTION_INFO_V1(deno_semver_sortsupport);
-Datum deno_semver_sortsupport(PG_FUNCTION_ARGS) {
-    SortSupport support = (SortSupport)PG_GETARG_POINTER(0);
-    support->comparator = compare_for_sort;
-    if (support->abbreviate && sizeof(Datum) == 8) {
-        support->comparator = ssup_datum_unsigned_cmp;
-        support->abbrev_full_comparator = compare_for_sort;
-        support->abbrev_converter = abbreviate;
-        support->abbrev_abort = never_abort;
-    }
-    PG_RETURN_VOID();
+Datum
+deno_semver_sortsupport(PG_FUNCTION_ARGS)
+{
+	prepare_sort((SortSupport) PG_GETARG_POINTER(0), compare_versions);
+	PG_RETURN_VOID();
+}
+
+PG_FUNCTION_INFO_V1(deno_semver_precedence_sortsupport);
+Datum
+deno_semver_precedence_sortsupport(PG_FUNCTION_ARGS)
+{
+	prepare_sort((SortSupport) PG_GETARG_POINTER(0), compare_precedence);
+	PG_RETURN_VOID();
 }

@@ -17,6 +17,23 @@ EXPLAIN (COSTS OFF) SELECT * FROM (VALUES ('p3', '^1.2'::semver_range)) d(packag
 PREPARE matching(semver_range) AS SELECT count(*) FROM versions WHERE version <@ $1;
 SET plan_cache_mode = force_generic_plan;
 EXPLAIN (COSTS OFF) EXECUTE matching('^1 || ^3');
+-- a column of a domain
+CREATE DOMAIN release AS semver CHECK (NOT semver_is_pre(VALUE));
+CREATE TABLE releases AS SELECT version::release AS version FROM versions WHERE NOT semver_is_pre(version);
+CREATE INDEX ON releases(version);
+ANALYZE releases;
+EXPLAIN (COSTS OFF) SELECT * FROM releases WHERE version <@ '~1.2.0';
+EXPLAIN (COSTS OFF) SELECT * FROM releases WHERE version <@ '1.2.3 || ^5.1';
+SELECT count(*) FROM releases WHERE version <@ '1.2.3 || ^5.1';
+-- what costs or checks something is evaluated once, and a parameter is in no index
+EXPLAIN (COSTS OFF) SELECT * FROM versions WHERE semver_try(written) <@ '1.2.3 || ^5.1';
+EXPLAIN (COSTS OFF) SELECT * FROM versions WHERE version::release <@ '1.2.3 || ^5.1';
+PREPARE within(semver) AS SELECT $1 <@ '1.2.3 || ^5.1';
+EXPLAIN (VERBOSE, COSTS OFF) EXECUTE within('1.2.3');
+-- a partial index of a range with several alternatives
+CREATE INDEX of_two ON versions(package) WHERE version <@ '^1 || ^3';
+EXPLAIN (COSTS OFF) SELECT * FROM versions WHERE version <@ '^1 || ^3' AND package = 'p3';
+DROP INDEX of_two;
 -- by each way the same rows
 CREATE TABLE ranges(r semver_range);
 INSERT INTO ranges VALUES ('1.2.3 || ^5.1'), ('^1 || ^3'), ('~1.2.0'), ('*'), ('>=1.2.0-a.1 <1.2.5 || 6.x'), ('>3'), ('<0.0.0'), ('<=2.1.1-a.3');
@@ -34,7 +51,7 @@ BEGIN
     RETURN NEXT;
   END LOOP;
 END $$;
-SET client_min_messages = error;
+SET client_min_messages = warning;
 SELECT * FROM counts('SET enable_seqscan = off');
 SELECT * FROM counts('SET enable_seqscan = on; SET enable_indexscan = off; SET enable_bitmapscan = off; SET enable_indexonlyscan = off');
 -- in a schema that isn't searched
