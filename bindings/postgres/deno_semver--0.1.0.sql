@@ -269,7 +269,7 @@ CREATE OPERATOR = (LEFTARG = semver_range, RIGHTARG = semver_range, FUNCTION = s
 CREATE OPERATOR <> (LEFTARG = semver_range, RIGHTARG = semver_range, FUNCTION = semver_range_ne, COMMUTATOR = <>, NEGATOR = =, RESTRICT = neqsel, JOIN = neqjoinsel);
 CREATE OPERATOR >= (LEFTARG = semver_range, RIGHTARG = semver_range, FUNCTION = semver_range_ge, COMMUTATOR = <=, NEGATOR = <, RESTRICT = scalargesel, JOIN = scalargejoinsel);
 CREATE OPERATOR > (LEFTARG = semver_range, RIGHTARG = semver_range, FUNCTION = semver_range_gt, COMMUTATOR = <, NEGATOR = <=, RESTRICT = scalargtsel, JOIN = scalargtjoinsel);
-COMMENT ON OPERATOR = (semver_range, semver_range) IS 'both have the same alternatives, written as they may be';
+COMMENT ON OPERATOR = (semver_range, semver_range) IS 'both have the same alternatives in the same order';
 -- Equal ranges may be different strings, so an index keeps each.
 CREATE OPERATOR CLASS semver_range_ops DEFAULT FOR TYPE semver_range USING btree AS
   OPERATOR 1 <, OPERATOR 2 <=, OPERATOR 3 =, OPERATOR 4 >=, OPERATOR 5 >, FUNCTION 1 semver_range_cmp(semver_range, semver_range);

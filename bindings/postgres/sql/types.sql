@@ -21,7 +21,7 @@ SELECT semver_canonical('1', 'pnpm');
 SELECT semver_canonical('1 2', 'strict');
 SELECT ('1.0.0-' || repeat('a', 70000))::semver_range;
 -- a notice once a statement, which a restored dump doesn't show
-SELECT '<0.0.0'::semver_range, '<0'::semver_range, n, ('<0.0.' || n)::semver_range FROM generate_series(0, 1) n;
+SELECT '<0.0.0'::semver_range, '<0'::semver_range, n, ('>=' || n || ' <0')::semver_range FROM generate_series(1, 2) n;
 CREATE TEMPORARY TABLE none(range semver_range);
 COPY none FROM stdin;
 <0.0.0
