@@ -23,6 +23,7 @@ CREATE CAST (varchar AS semver) WITH INOUT AS ASSIGNMENT;
 
 -- Keys compare by their bytes, also in a database with another collation.
 CREATE DOMAIN semver_sort_key AS text COLLATE "C";
+COMMENT ON DOMAIN semver_sort_key IS 'a string whose bytes compare as versions do by precedence';
 
 CREATE FUNCTION semver_key(semver) RETURNS semver_sort_key AS 'MODULE_PATHNAME', 'deno_semver_key'
   LANGUAGE C IMMUTABLE STRICT PARALLEL SAFE;
@@ -84,6 +85,7 @@ CREATE FUNCTION semver_scans(range text, pre_releases boolean, grammar text DEFA
 CREATE FUNCTION semver_canonical(range text, grammar text DEFAULT 'npm') RETURNS text AS 'MODULE_PATHNAME', 'deno_semver_canonical'
   LANGUAGE C IMMUTABLE STRICT PARALLEL SAFE COST 20;
 COMMENT ON FUNCTION semver_scans(semver_range) IS 'what a range matches: the keys from low on and below high, of releases or of pre-releases';
+COMMENT ON FUNCTION semver_scans(text, boolean, text) IS 'the same of a string, by a grammar, and with every pre-release or not';
 COMMENT ON FUNCTION semver_canonical(text, text) IS 'the canonical form of a range, or the tag';
 
 -- ---- orders
@@ -233,6 +235,12 @@ CREATE OPERATOR CLASS semver_precedence_ops FOR TYPE semver USING btree AS
   FUNCTION 1 semver_compare(semver, semver), FUNCTION 2 semver_precedence_sortsupport(internal);
 CREATE OPERATOR CLASS semver_precedence_ops FOR TYPE semver USING hash AS
   OPERATOR 1 #=, FUNCTION 1 semver_precedence_hash(semver), FUNCTION 2 semver_precedence_hash_extended(semver, bigint);
+COMMENT ON OPERATOR #< (semver, semver) IS 'below by precedence, which ignores builds';
+COMMENT ON OPERATOR #<= (semver, semver) IS 'below or equal by precedence, which ignores builds';
+COMMENT ON OPERATOR #= (semver, semver) IS 'equal by precedence, which ignores builds';
+COMMENT ON OPERATOR #>= (semver, semver) IS 'above or equal by precedence, which ignores builds';
+COMMENT ON OPERATOR #> (semver, semver) IS 'above by precedence, which ignores builds';
+COMMENT ON OPERATOR #<> (semver, semver) IS 'not equal by precedence, which ignores builds';
 COMMENT ON OPERATOR CLASS semver_precedence_ops USING btree IS 'the order by precedence, which ignores builds';
 COMMENT ON OPERATOR CLASS semver_precedence_ops USING hash IS 'equality by precedence, which ignores builds';
 
@@ -242,6 +250,8 @@ CREATE FUNCTION semver_smaller(semver, semver) RETURNS semver AS 'MODULE_PATHNAM
   LANGUAGE C IMMUTABLE STRICT PARALLEL SAFE;
 CREATE AGGREGATE max(semver) (SFUNC = semver_larger, STYPE = semver, COMBINEFUNC = semver_larger, SORTOP = >, PARALLEL = SAFE);
 CREATE AGGREGATE min(semver) (SFUNC = semver_smaller, STYPE = semver, COMBINEFUNC = semver_smaller, SORTOP = <, PARALLEL = SAFE);
+COMMENT ON AGGREGATE max(semver) IS 'the highest version';
+COMMENT ON AGGREGATE min(semver) IS 'the lowest version';
 
 -- ---- the order of ranges
 
