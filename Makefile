@@ -23,7 +23,7 @@ DIST = out/dist
 PROGRAMS := crates/ranges/out/ranges crates/npmver/out/npmver
 STRIPPED := out/ranges out/npmver
 # SQLite's extension, if the compiler finds SQLite's header.
-SQLITE := $(shell echo '\#include <sqlite3ext.h>' | $(CC) -E -x c - >/dev/null 2>&1 && echo $(OUT)/mod_deno_semver.so)
+SQLITE := $(shell $(CC) -E -include sqlite3ext.h -x c /dev/null >/dev/null 2>&1 && echo $(OUT)/mod_deno_semver.so)
 LIBRARIES = $(OUT)/$(SONAME) $(OUT)/libdeno_semver.a $(OUT)/deno_semver.pc $(SQLITE)
 
 .PHONY: all libraries x86_64 aarch64 try test dist install uninstall version help mostlyclean clean tools
