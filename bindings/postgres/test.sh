@@ -155,7 +155,7 @@ memory() { # KIND
 # The address space of a session may grow, by more each time, until there is an answer. Before that memory runs out, also in the library, whose error
 # has no detail, and the next question is answered.
 run_out() {
-    library=0
+    failed=0
     for growth in $(seq 256 256 65536); do
         session stored
         tell "select '1.2.3' <@ semver_range '^1';"
@@ -165,11 +165,11 @@ run_out() {
         end_session
         [ "$answer" = t ] || break
         [ "$(head -n 1 "$root/errors")" = 'ERROR:  out of memory' ] || fail "without memory the error is $(cat "$root/errors")"
-        grep -q DETAIL "$root/errors" || library=$((library + 1))
+        grep -q DETAIL "$root/errors" || failed=$((failed + 1))
     done
     [ "$answer" = 50000 ] || fail "after an error the answer is $answer"
-    [ $library -gt 0 ] || fail 'memory runs out nowhere in the library'
-    echo "PostgreSQL: out of memory $((growth / 256 - 1)) times, $library in the library, and then an answer"
+    [ $failed -gt 0 ] || fail 'memory runs out nowhere in the library'
+    echo "PostgreSQL: out of memory $((growth / 256 - 1)) times, $failed in the library, and then an answer"
 }
 
 # Ten million calls, ranges that are compared, and errors that are caught, in one session, whose memory may grow by four megabytes.
