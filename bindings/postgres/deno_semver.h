@@ -73,7 +73,7 @@ extern const char *sv_server(const char *utf8, size_t len);
 extern text *sv_text(const char *utf8, size_t len);
 
 /*
- * Errors.  With a context that takes soft errors, of PostgreSQL 16, all but
+ * Errors.  With a context that takes soft errors, from PostgreSQL 16 on, all but
  * the last return.
  */
 extern void sv_reject_version(Node *context, sv_string version, int32_t code);
@@ -89,10 +89,11 @@ extern uint32_t sv_grammar(const text *name);
 
 /*
  * semver: the sort key, a zero byte, and the version as displayed.
- * semver_bound: a key, or the bound of a scan, and a zero byte.
+ * semver_bound: a key, or the bound of a scan, and a zero byte.  It stands below
+ * each version of the same key.
  *
- * A zero byte is below each byte of a key, so the keys compare by memcmp with
- * the zero byte behind them, and a bound stands below each version of its key.
+ * A zero byte is below each byte of a key, so keys compare by memcmp with the
+ * zero byte behind them.
  */
 extern sv_string sv_key(const struct varlena *stored);
 extern sv_string sv_version_string(const struct varlena *version);
