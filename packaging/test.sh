@@ -31,9 +31,7 @@ try_programs() { # FOLDER COMMAND..
     folder=$1
     shift
     expect "ranges $version" "$@" "$folder/bin/ranges" --version
-    if stated=$("$@" "$folder/bin/npmver" --version 2>/dev/null) && [ "$stated" != "npmver $version" ]; then
-        fail "npmver --version: $stated, and not npmver $version"
-    fi
+    expect "npmver $version" "$@" "$folder/bin/npmver" --version
     expect yes "$@" "$folder/bin/npmver" fits npm '>=1.2 <2 || 3' 1.3.0
     if has man; then
         for page in "$folder"/share/man/man1/*; do

@@ -9,7 +9,8 @@
 //! (0) if two requirements overlap, both by npm's grammar, and `no` (1) if they don't.
 //!
 //! An invalid argument prints `refused: MESSAGE` on standard error (3); other arguments print the usage there (4), and out of
-//! memory `out of memory` (5). The status is 6 if standard output can't be written. `npmver --help` prints the commands (0).
+//! memory `out of memory` (5). The status is 6 if standard output can't be written. `npmver --help`, or `-h`, prints the commands
+//! (0), and `npmver --version`, or `-V`, the version (0).
 #![tactic(auto)]
 
 ghost use Rattle.std.specs.Prelude.{◌≡◌, ◌∷◌, MatchOption, codes, map, string_bytes};
@@ -40,6 +41,9 @@ npmver compares versions with version ranges of npm and JSR packages.
   npmver normal GRAMMAR RANGE            the canonical form of the range, or its tag
   npmver meet RANGE RANGE                whether two ranges of npm's grammar overlap: yes or no
 
+  npmver -h, --help                      print this page
+  npmver -V, --version                   print the version
+
 GRAMMAR is npm, normal (comparators separated by whitespace, alternatives by ||) or strict (that of package specifiers).
 
   $ npmver fits npm '>=1.2 <2 || 3' 1.3.0
@@ -49,6 +53,8 @@ GRAMMAR is npm, normal (comparators separated by whitespace, alternatives by ||)
 
 Exit status: 0 yes or a text, 1 no or none, 2 a tag, 3 an invalid argument, 4 unknown arguments, 5 out of memory, 6 the
 output can't be written.";
+
+const VERSION: &str = "npmver 0.1.0";
 
 /// The line that the program prints.
 #[derive(Drop)]
@@ -229,6 +235,18 @@ fn report<E: Write>(err: &mut E, problem: &Problem) -> u8
     status
 }
 
+// What an option that stands alone prints.
+fn option_text(arguments: &[String]) -> Option<&'static str> {
+    let [option] = arguments else {
+        return None;
+    };
+    match option.as_str() {
+        "-h" | "--help" => Some(HELP),
+        "-V" | "--version" => Some(VERSION),
+        _ => None,
+    }
+}
+
 fn main(rt: HostRuntime) -> ExitCode {
     let mut out = io::writer(&rt);
     let mut err = rt.stderr();
@@ -237,12 +255,12 @@ fn main(rt: HostRuntime) -> ExitCode {
         Ok(arguments)
     });
     let status = match arguments {
-        Ok(arguments) => match arguments.as_slice() {
-            [option] if option.as_str() == "--help" => match writeln!(out, "{HELP}") {
+        Ok(arguments) => match option_text(arguments.as_slice()) {
+            Some(text) => match writeln!(out, "{text}") {
                 Ok(()) => 0,
                 Err(_) => 6,
             },
-            arguments => run(rt.alloc(), arguments, &mut out, &mut err),
+            None => run(rt.alloc(), arguments.as_slice(), &mut out, &mut err),
         },
         Err(e) if e.kind() == ErrorKind::OutOfMemory => {
             report(&mut err, &Problem::Unanswered(Unanswered::OutOfMemory))
