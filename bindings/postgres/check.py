@@ -13,7 +13,7 @@ from check import SORT_KEYS, VERSIONS, random_sets, text
 SETUP = """
 create database checked;
 \\connect checked
-set client_min_messages = warning; -- not of ranges that match nothing
+set client_min_messages = error; -- not of ranges that match nothing
 create extension deno_semver;
 create table versions(id integer primary key, version semver);
 copy versions from stdin;

@@ -233,8 +233,7 @@ read_range(Node *context, uint32_t grammar, uint32_t pre_releases,
 /*
  * A range that matches nothing is probably a mistake: of `^1.2.3.4 || ^1.2.3.`
  * both alternatives are invalid, and so left out.  Who types one is told so,
- * once a statement.  A dump sets client_min_messages to warning, so that a
- * notice isn't seen where it is restored.
+ * once a statement, so a dump is restored with one for each table.
  */
 static void
 tell_of_nothing(const struct varlena *range)
@@ -246,7 +245,7 @@ tell_of_nothing(const struct varlena *range)
 	if (sv_scans_of(range).count > 0 || told == now)
 		return;
 	told = now;
-	ereport(NOTICE,
+	ereport(WARNING,
 			(errmsg("semver_range \"%s\" matches no version",
 					sv_server(string, strlen(string)))));
 }

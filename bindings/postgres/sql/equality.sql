@@ -6,7 +6,7 @@ SELECT a, b, a = b AS equal, a <> b AS differ, a < b AS below, a <= b AS at_or_b
 SELECT r FROM unnest('{<2, ^1, >=2, *, 1.x, 1.2.3, "1 || 2", "2 || 1"}'::semver_range[]) r ORDER BY r, r::text COLLATE "C";
 SELECT ROW('^1'::semver_range) = ROW('1'::semver_range) AS rows_equal, '{^1}'::semver_range[] = '{1}'::semver_range[] AS arrays_equal;
 -- all pairs of comparators: each way to find equal ones counts as many
-SET client_min_messages = warning;
+SET client_min_messages = error;
 CREATE TEMPORARY TABLE pairs AS
   WITH comparators AS (SELECT op || version AS c FROM unnest('{>,<,>=,"",^}'::text[]) op, unnest('{1,1.0.0,1.2.3-a,1.2.3+b,*}'::text[]) version)
   SELECT (one.c || sep || other.c)::semver_range AS r FROM comparators one, comparators other, unnest('{" "," || "}'::text[]) sep;

@@ -53,14 +53,14 @@ BEGIN
     RETURN NEXT;
   END LOOP;
 END $$;
-SET client_min_messages = warning;
+SET client_min_messages = error;
 SELECT * FROM counts('SET enable_seqscan = off');
 SELECT * FROM counts('SET enable_seqscan = on; SET enable_indexscan = off; SET enable_bitmapscan = off; SET enable_indexonlyscan = off');
 -- in a schema that isn't searched
 CREATE SCHEMA elsewhere;
 ALTER EXTENSION deno_semver SET SCHEMA elsewhere;
 RESET ALL;
-SET client_min_messages = warning;
+SET client_min_messages = error;
 SET enable_seqscan = off;
 \pset format unaligned
 EXPLAIN (COSTS OFF) SELECT * FROM versions WHERE version OPERATOR(elsewhere.<@) '1.2.3 || ^5.1';

@@ -11,7 +11,7 @@ SELECT * FROM pg_input_error_info('{1.2.3, 1.2}', 'semver[]');
 SELECT * FROM pg_input_error_info('>=1.2<2', 'semver_range');
 SELECT * FROM pg_input_error_info('latest', 'semver_range');
 \x off
-SET client_min_messages = warning;
+SET client_min_messages = error;
 CREATE TEMPORARY TABLE copied(version semver, range semver_range);
 COPY copied FROM stdin (ON_ERROR ignore);
 1.2.3	^1.2

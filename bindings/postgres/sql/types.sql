@@ -20,14 +20,14 @@ SELECT '<0.0.0'::semver_range;
 SELECT semver_canonical('1', 'pnpm');
 SELECT semver_canonical('1 2', 'strict');
 SELECT ('1.0.0-' || repeat('a', 70000))::semver_range;
--- a notice once a statement, which a restored dump doesn't show
+-- a warning once a statement
 SELECT '<0.0.0'::semver_range, '<0'::semver_range, n, ('>=' || n || ' <0')::semver_range FROM generate_series(1, 2) n;
 CREATE TEMPORARY TABLE none(range semver_range);
 COPY none FROM stdin;
 <0.0.0
 <0
 \.
-SET client_min_messages = warning;
+SET client_min_messages = error;
 COPY none FROM stdin;
 <0.0.0
 <0
