@@ -35,7 +35,7 @@ libraries: $(LIBRARIES)
 
 help:
 	@echo 'make              prove and build the programs and libraries'
-	@echo 'make try          one answer within a minute, without the proof'
+	@echo 'make try          one answer within two minutes, without the proof'
 	@echo 'make test         the whole gate: every proof and every test'
 	@echo 'make dist         a release in out/dist: sources, tarballs, a Debian package, a wheel, a crate, an npm package, checksums'
 	@echo 'make install      install below PREFIX (/usr/local), the libraries in LIBDIR (PREFIX/lib), within DESTDIR if it is set'
@@ -49,22 +49,22 @@ tools:
 
 try:
 	@packaging/tools.sh rt
-	@echo 'Does 1.3.0 match >=1.2 <2 || 3?'
-	@cd crates/npmver && rt try -- fits npm '>=1.2 <2 || 3' 1.3.0
+	@echo "ranges explain '>=1.2 <2 || 3.x'"
+	@cd crates/ranges && rt try -- explain '>=1.2 <2 || 3.x'
 
 test:
 	@packaging/tools.sh --tests
 	bash .ci/run
 
-# rt proves a program and the crates below it, in silence for minutes at a time, before it builds and runs it.
+# A program is proved with the crates below it, in silence for minutes at a time, before it is built; after a passed gate it alone is.
 crates/ranges/out/ranges: $(SOURCES)
 	@echo 'Proving and building ranges: half an hour the first time, with long silences, then only what changed.'
-	@cd crates/ranges && rt run -- --version >/dev/null
+	@packaging/program.py ranges --version
 	@touch $@
 
 crates/npmver/out/npmver: $(SOURCES)
 	@echo 'Proving and building npmver: a few minutes the first time.'
-	@cd crates/npmver && rt run -- meet 1 1 >/dev/null
+	@packaging/program.py npmver --version
 	@touch $@
 
 out/ranges: crates/ranges/out/ranges
