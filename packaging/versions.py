@@ -1,5 +1,6 @@
 #!/usr/bin/env python3
-"""Checks that each file that states the version of the project states this one, the Makefile's. The programs say theirs by --version.
+"""Checks that each file that states the version of the project states this one, the Makefile's, and that packages name one address of the
+repository. The programs say their version by --version.
 
     packaging/versions.py VERSION
 
@@ -24,11 +25,24 @@ FILES = {
     "packaging/man/npmver.1": (re.compile(r"^\.TH .*?(\d+\.\d+\.\d+)", re.M), 0),
     "packaging/man/ranges.1": (re.compile(r"^\.TH .*?(\d+\.\d+\.\d+)", re.M), 0),
 }
+# Where the address of the repository stands.
+ADDRESS = re.compile(r"https://[\w./-]*/deno_semver\b")
+ADDRESSED = (
+    "bindings/js/package.json",
+    "bindings/postgres/META.json",
+    "bindings/python/make_wheel.py",
+    "bindings/python/pyproject.toml",
+    "bindings/rust/Cargo.toml",
+    "packaging/debian/control.in",
+)
 
 
 def main():
     wanted = sys.argv[1]
     faults = []
+    addresses = {name: set(ADDRESS.findall((TOP / name).read_text())) for name in ADDRESSED}
+    if any(len(found) != 1 or found != addresses[ADDRESSED[0]] for found in addresses.values()):
+        faults.append(f"packages name other addresses of the repository: {addresses}")
     for name, (pattern, least) in FILES.items():
         stated = pattern.findall((TOP / name).read_text())
         if len(stated) < least:
