@@ -1,25 +1,25 @@
 /* SPDX-License-Identifier: MIT */
 /* deno_semver, proved: its calls from C.
  *
- * A text is bytes in UTF-8 and a length; no call looks for a 0 byte behind it, or writes one. For every call:
- * - A pointer is never null, even with length 0. What it points to lives, and doesn't change, while the call runs.
- * - What a call may write, which it takes without `const`, must not alias any other argument. Two arguments with `const` may be the same.
- * - No call keeps a pointer that it is given. Several threads may call at once, each with memory of its own for what a call may write;
- *   none may call from a signal handler, nor from a forked child of a program that has threads.
- * - `malloc`, `realloc` and `free` are those of one allocator, and a block is aligned to each power of two up to 16 that
- *   divides its size.
+ * A string is UTF-8 bytes and a length. No call looks for a NUL byte behind it, or writes one. For every call:
+ * - Pass no null pointer, even with length 0. What a pointer leads to must live, and not change, while the call runs.
+ * - What a call may write, which it takes without `const`, must not overlap any other argument. Two `const` arguments may be the same.
+ * - No call keeps a pointer that you pass. Several threads may call at once, each with its own memory for what a call may write. Don't
+ *   call from a signal handler, nor in the forked child of a program that has threads.
+ * - `malloc`, `realloc` and `free` must belong to one allocator, which aligns a block to each power of two up to 16 that divides its
+ *   size.
  *
- * A call returns a code: 0 and above is an answer, and a negative one says why there is none. So `semver_fits(..) > 0` is true
- * exactly if the version matches. The `const` handles are checked first, then the grammar's number, then whether each text is UTF-8,
- * then each text from the left; the first that is invalid decides.
+ * A call returns a code: 0 or more is an answer, and a negative code says why there is none. So `semver_fits(..) > 0` is true exactly
+ * if the version matches. A call checks `const` handles first, then the grammar's number, then whether each string is UTF-8, then each
+ * string from the left; the first that is invalid decides.
  *
- * A text is written to the front of `out` if it fits, and the rest of `out` stays; if it doesn't, `out` stays as it was. Its length
- * is in `*needed` either way, 0 if there is none. With the codes from SEMVER_INVALID_RANGE down the text is an error message. To ask
- * for no text, give a buffer of length 0.
+ * A call writes its string to the start of `out` if it fits, and leaves the rest; if it doesn't fit, `out` stays as it was. The length is
+ * stored in `*needed` either way, 0 if there is no string. With codes from SEMVER_INVALID_RANGE down the string is an error message. If
+ * you want no string, pass a buffer of length 0.
  *
- * A call of several arguments of one kind writes `*place` with SEMVER_INVALID_RANGE and SEMVER_INVALID_VERSION: which of them it is,
- * the first or the second of two, or the line of a list, counted from 0. For any other code `*place` stays as it was, unless said
- * otherwise. A line ends at "\n" or "\r\n", and there is none after the last; an empty text has none. */
+ * A call with several arguments of one kind stores in `*place` which one is invalid, with SEMVER_INVALID_RANGE and
+ * SEMVER_INVALID_VERSION: the first or the second of two, or the line of a list, counted from 0. With any other code `*place` stays as it
+ * was, unless said otherwise. A line ends at "\n" or "\r\n", and none follows the last; an empty string has no line. */
 #ifndef SEMVER_H
 #define SEMVER_H
 
@@ -40,13 +40,13 @@ enum {
     SEMVER_STRICT = 2      /* the grammar of package specifiers: ~, ^ or nothing before one partial version */
 };
 
-/* kinds of text, of which semver_why asks */
+/* what semver_why asks about */
 enum { SEMVER_PACKAGE = 0, SEMVER_REFERENCE = 1 };
 
-/* pre-releases: by npm's rule, or every one between the bounds, which any other number means, too */
+/* pre-releases match by npm's rule, or wherever they lie between the bounds; any other number means the latter, too */
 enum { SEMVER_RESTRICTED = 0, SEMVER_ADMITTED = 1 };
 
-/* kinds of releases, by which step a version comes next; for semver_difference also that there is none */
+/* kinds of steps from one version to the next; semver_difference also returns that there is none */
 enum {
     SEMVER_MAJOR = 0, SEMVER_MINOR = 1, SEMVER_PATCH = 2,
     SEMVER_PREMAJOR = 3, SEMVER_PREMINOR = 4, SEMVER_PREPATCH = 5, /* a pre-release of the next of these */
@@ -63,32 +63,32 @@ enum {
     SEMVER_NO = 0,
     SEMVER_YES = 1,
     SEMVER_BEFORE = 0, SEMVER_SAME = 1, SEMVER_AFTER = 2, /* of two versions */
-    SEMVER_TAG = -1,             /* a range is a tag, the name that a registry gives a version, so there is no other answer */
+    SEMVER_TAG = -1,             /* a range is a tag, a name that a registry gives a version */
     SEMVER_INVALID_RANGE = -2,   /* a range, a package or a reference is invalid */
     SEMVER_INVALID_VERSION = -3,
     SEMVER_NOT_UTF8 = -4,        /* bytes aren't valid UTF-8 */
-    SEMVER_NO_GRAMMAR = -5,      /* no grammar has this number, no kind of text (semver_why), no kind of release, or no base */
+    SEMVER_NO_GRAMMAR = -5,      /* nothing has this number: no grammar, no kind of step, no base, nothing that semver_why asks about */
     SEMVER_NO_MEMORY = -6,       /* out of memory */
     SEMVER_NO_VALUE = -7,        /* a handle is empty, or holds a value of another kind */
     SEMVER_NO_INCREMENT = -8     /* there is no next version, or the identifiers of its pre-release are invalid */
 };
 
-/* ---- versions and ranges, from texts */
+/* ---- versions and ranges, from strings */
 
 /* Whether the version matches the range: NO, YES or TAG. */
 int32_t semver_fits(uint32_t grammar, const char *range, size_t range_len,
                     const char *version, size_t version_len, uint32_t pre_releases,
                     char *out, size_t out_len, size_t *needed);
 
-/* Which versions of a list, one per line, match the range: YES or TAG. With YES `answers[n]` is the answer of line n, NO, YES or
- * INVALID_VERSION, and `*needed` is the number of lines, else 0. If there are more than `answers_len`, `answers` stays as it was;
- * it does for any code but YES, too. */
+/* Which versions of a list, one per line, match the range: YES or TAG. With YES `answers[n]` is NO, YES or INVALID_VERSION for line n,
+ * and `*needed` is the number of lines; else it is 0. If there are more lines than `answers_len`, or with any code but YES, `answers`
+ * stays as it was. */
 int32_t semver_filter(uint32_t grammar, const char *range, size_t range_len,
                       const char *versions, size_t versions_len, uint32_t pre_releases,
                       int8_t *answers, size_t answers_len, size_t *needed);
 
-/* Which of several versions, one per line, is the highest that matches the range, the first of equal ones: YES, and `*place` is its
- * line, counted from 0; NO, if none matches; or TAG. With INVALID_VERSION `*place` is the line, with INVALID_RANGE 0. */
+/* The highest of several versions, one per line, that matches the range, the first of equal ones: YES, and `*place` is its line, counted
+ * from 0; NO, if none matches; or TAG. With INVALID_VERSION `*place` is the line, with INVALID_RANGE 0. */
 int32_t semver_best(uint32_t grammar, const char *range, size_t range_len,
                     const char *versions, size_t versions_len, uint32_t pre_releases, size_t *place);
 
@@ -96,21 +96,21 @@ int32_t semver_best(uint32_t grammar, const char *range, size_t range_len,
 int32_t semver_lowest(uint32_t grammar, const char *range, size_t range_len,
                       const char *versions, size_t versions_len, uint32_t pre_releases, size_t *place);
 
-/* The places of several versions, one per line, in the order of precedence: YES. `places[0]` is the line of the lowest, counted from
- * 0, versions that differ only in the build keep their order, and `*needed` is the number of lines. If there are more than
- * `places_len`, `places` stays as it was. */
+/* Sorts several versions, one per line, by precedence: YES. `places[0]` is the line of the lowest, counted from 0, and `*needed` is the
+ * number of lines. Versions that differ only in the build keep their order. If there are more lines than `places_len`, `places` stays as
+ * it was. */
 int32_t semver_sort(const char *versions, size_t versions_len, size_t *places, size_t places_len, size_t *needed,
                     size_t *place);
 
-/* The order of two versions, builds aside: BEFORE, if the first is before the other, SAME or AFTER. */
+/* The order of two versions, builds aside: BEFORE, if the first comes before the other, SAME or AFTER. */
 int32_t semver_compare(const char *one, size_t one_len, const char *other, size_t other_len, size_t *place);
 
-/* The next version of a kind, without a build: YES. It is the next release, or the first pre-release of it, which has the identifiers, with
- * "." between them, or none, and then the number of `base`. SEMVER_PATCH of 1.2.3-rc.1 is its own release, 1.2.3, and so are SEMVER_MINOR and
- * SEMVER_MAJOR where the numbers behind are 0. SEMVER_PRERELEASE raises the last number of a pre-release that begins with the identifiers and
- * goes on with a number, or of any pre-release without identifiers; one with other identifiers gets these, which may be below the version.
- * NO_INCREMENT where a number would be above 18446744073709551615, SEMVER_RELEASE is asked of a release, the pre-release would be
- * empty, or it is that of the version. */
+/* The next version of a kind, without a build: YES. It is the next release, or the first pre-release of it, which has your identifiers,
+ * separated by ".", and then the number of `base`. SEMVER_PATCH of 1.2.3-rc.1 is its own release, 1.2.3; so are SEMVER_MINOR and
+ * SEMVER_MAJOR where the numbers behind are 0. SEMVER_PRERELEASE raises the last number of a pre-release that begins with the identifiers
+ * and goes on with a number, and without identifiers of any pre-release. A pre-release with other identifiers gets yours, and so may come
+ * before the version. The code is NO_INCREMENT if a number would exceed 18446744073709551615, if you ask for the SEMVER_RELEASE of a
+ * release, or if the pre-release would be empty or that of the version. */
 int32_t semver_increment(uint32_t release_type, const char *version, size_t version_len,
                          const char *identifiers, size_t identifiers_len, uint32_t base,
                          char *out, size_t out_len, size_t *needed);
@@ -120,12 +120,12 @@ int32_t semver_increment(uint32_t release_type, const char *version, size_t vers
  * release SEMVER_MAJOR. SEMVER_NO_DIFFERENCE if the versions have the same precedence. */
 int32_t semver_difference(const char *one, size_t one_len, const char *other, size_t other_len, size_t *place);
 
-/* Whether two ranges overlap by their bounds: NO or YES. Two tags do if they are the same, a tag and versions never. */
+/* Whether two ranges overlap by their bounds: NO or YES. Two tags overlap if they are the same; a tag and a range never do. */
 int32_t semver_overlap(uint32_t grammar, const char *one, size_t one_len, const char *other, size_t other_len,
                        size_t *place);
 
-/* Whether the other range matches each version that the first one matches: YES; NO, with the text of the lowest version that
- * it doesn't; or TAG. */
+/* Whether the other range matches each version that the first one matches: YES; NO, with the lowest version that it doesn't match; or
+ * TAG. */
 int32_t semver_within(uint32_t grammar, const char *one, size_t one_len, const char *other, size_t other_len,
                       uint32_t pre_releases, char *out, size_t out_len, size_t *needed, size_t *place);
 
@@ -133,7 +133,7 @@ int32_t semver_within(uint32_t grammar, const char *one, size_t one_len, const c
 int32_t semver_equivalent(uint32_t grammar, const char *one, size_t one_len, const char *other, size_t other_len,
                           uint32_t pre_releases, size_t *place);
 
-/* The lowest version that both ranges match: YES, with its text; NO, if there is none; or TAG. */
+/* The lowest version that both ranges match: YES, with that version; NO, if there is none; or TAG. */
 int32_t semver_common(uint32_t grammar, const char *one, size_t one_len, const char *other, size_t other_len,
                       uint32_t pre_releases, char *out, size_t out_len, size_t *needed, size_t *place);
 
@@ -141,7 +141,7 @@ int32_t semver_common(uint32_t grammar, const char *one, size_t one_len, const c
 int32_t semver_common_all(uint32_t grammar, const char *ranges, size_t ranges_len, uint32_t pre_releases,
                           char *out, size_t out_len, size_t *needed, size_t *place);
 
-/* The lowest version that the range matches: YES, with its text; NO, if there is none; or TAG. */
+/* The lowest version that the range matches: YES, with that version; NO, if there is none; or TAG. */
 int32_t semver_min_version(uint32_t grammar, const char *range, size_t range_len, uint32_t pre_releases,
                            char *out, size_t out_len, size_t *needed);
 
@@ -152,57 +152,57 @@ int32_t semver_normal(uint32_t grammar, const char *range, size_t range_len,
 /* Whether the range is a tag: NO or YES. */
 int32_t semver_is_tag(uint32_t grammar, const char *range, size_t range_len, char *out, size_t out_len, size_t *needed);
 
-/* How the version is displayed: YES. */
+/* The version as it is displayed: YES. */
 int32_t semver_version(const char *version, size_t version_len, char *out, size_t out_len, size_t *needed);
 
-/* The sort key of the version: YES. It is printable ASCII without whitespace, the bytes of two keys compare as semver_compare compares their
- * versions, and no key begins another. So an index over a column of keys sorts versions, if it compares by bytes. */
+/* The sort key of the version: YES. It is printable ASCII without whitespace. The bytes of two keys compare as semver_compare compares
+ * their versions, and no key begins another, so an index that compares by bytes sorts versions. */
 int32_t semver_key(const char *version, size_t version_len, char *out, size_t out_len, size_t *needed);
 
-/* The three numbers of a version: YES, if it has neither a pre-release nor a build, or NO, if it has one; then `*needed` is 3, else 0.
- * `numbers` stays as it was if `numbers_len` is less than 3, and for any other code. */
+/* The three numbers of a version: YES, if it has neither a pre-release nor a build, or NO, if it has one; with both `*needed` is 3, else
+ * 0. If `numbers_len` is less than 3, or with any other code, `numbers` stays as it was. */
 int32_t semver_version_numbers(const char *version, size_t version_len, uint64_t *numbers, size_t numbers_len, size_t *needed);
 
-/* Whether the text may be the tag of a version, by npm's rules: NO or YES. */
+/* Whether the string may be a tag, by npm's rules: NO or YES. */
 int32_t semver_may_be_tag(const char *text, size_t text_len);
 
-/* The ranges of a range, in the order in which they stand, as JSON: YES or TAG. Each has the members "end" and "start", its bounds: null,
- * or an object with "inclusive", whether the version itself lies within it, and "version". */
+/* The alternatives of a range in their order, as JSON: YES or TAG. Each has the members "end" and "start", its bounds: null, or an object
+ * with "inclusive", whether the version itself lies within, and "version". */
 int32_t semver_ranges(uint32_t grammar, const char *range, size_t range_len, char *out, size_t out_len, size_t *needed);
 
-/* What a range means, as JSON: YES or TAG. The members are "alternatives", in the order in which they stand, and "normal", the canonical
- * form. An alternative has "text", without the whitespace around it. If it is invalid, and so left out, it has "error", as of
- * semver_errors; else "end" and "start", as of semver_ranges, "lowest", the lowest version that it matches or null, and "pre-releases",
- * an array of the three numbers of which pre-releases match, or "all". */
+/* What a range means, as JSON: YES or TAG. The members are "alternatives", in their order, and "normal", the canonical form. An alternative
+ * has "text", without the whitespace around it. If it is invalid, and so left out, it has "error", as of semver_errors. Else it has "end"
+ * and "start", as of semver_ranges, "lowest", the lowest version that it matches or null, and "pre-releases", an array of the three
+ * numbers whose pre-releases match, or "all". */
 int32_t semver_explain(uint32_t grammar, const char *range, size_t range_len, uint32_t pre_releases,
                        char *out, size_t out_len, size_t *needed);
 
-/* What is wrong with a range, as JSON: YES, with an array of its invalid alternatives, in the order in which they stand. Each has "message",
- * "start", the index of the byte at which it goes wrong, "end", where it ends, and "expected", what could be at "start": "digit",
- * "letter", "whitespace", "end", or a text such as ".". A tag isn't a range, so it is one, too. By the strict grammar the one alternative is
- * the text. */
+/* What is wrong with a range, as JSON: YES, with an array of its invalid alternatives in their order. Each has "message", "start", the
+ * index of the byte at which it goes wrong, "end", where it ends, and "expected", what could stand at "start": "digit", "letter",
+ * "whitespace", "end", or a string such as ".". A tag is an invalid alternative, too. In the strict grammar the whole string is one
+ * alternative. */
 int32_t semver_errors(uint32_t grammar, const char *range, size_t range_len, char *out, size_t out_len, size_t *needed);
 
-/* Where a text stops being a version: YES, and `*place` is the index of the byte at which no version goes on like this. For a version,
- * and for a text that only stops too early, that is its length. */
+/* Where a string stops being a version: YES, and `*place` is the index of the byte at which no version goes on like this. For a version,
+ * and for a string that only stops too early, that is its length. */
 int32_t semver_version_error(const char *version, size_t version_len, size_t *place);
 
-/* The parts of a version, as JSON: YES. "major", "minor" and "patch" are texts, and "build" and "pre" are arrays of texts. */
+/* The parts of a version, as JSON: YES. "major", "minor" and "patch" are strings, and "build" and "pre" are arrays of strings. */
 int32_t semver_version_parts(const char *version, size_t version_len, char *out, size_t out_len, size_t *needed);
 
-/* ---- packages, from texts: JSON without whitespace between its parts, with the members in the order given here */
+/* ---- packages, from strings: JSON without whitespace between its parts, with the members in the order given here */
 
 /* The parts of a package with a range, such as @scope/name@^1.2: YES. The members are "name", without its scope, "normal", the
- * canonical form of the range, "requirement", the text it was parsed from, and "scope", without its @ or null. The grammar is that
+ * canonical form of the range, "requirement", the string it was parsed from, and "scope", without its @ or null. The grammar is that
  * of the range. */
 int32_t semver_package(uint32_t grammar, const char *text, size_t text_len, char *out, size_t out_len, size_t *needed);
 
-/* Why the text of a package (SEMVER_PACKAGE) or of a reference (SEMVER_REFERENCE) is invalid: YES; or NO, if it is valid. The members are
- * "kind", "message", the error message of semver_package or semver_reference, "snippet", the part of the text that is wrong or null, and
- * "suggested", a text to write instead or null. The kinds are "NoPackageName", "InvalidPackageName", "MissingAtSymbol",
+/* Why a package (SEMVER_PACKAGE) or a reference (SEMVER_REFERENCE) is invalid: YES; or NO, if it is valid. The members are "kind",
+ * "message", the error message of semver_package or semver_reference, "snippet", the part of the string that is wrong or null, and
+ * "suggested", a string to write instead or null. The kinds are "NoPackageName", "InvalidPackageName", "MissingAtSymbol",
  * "SpecifierVersionReq", "NpmVersionReq" and "NormalizedVersionReq"; for a reference also "NotExpectedScheme" and
- * "InvalidPathWithVersion", the one that has a suggested text. The grammar is that of a package's range. The range of a reference has the
- * strict one, whichever is given. */
+ * "InvalidPathWithVersion", which alone has a suggested string. The grammar is that of a package's range; a reference's range has the
+ * strict grammar, whichever you pass. */
 int32_t semver_why(uint32_t what, uint32_t grammar, const char *text, size_t text_len, char *out, size_t out_len, size_t *needed);
 
 /* The parts of a reference to a package, such as jsr:@scope/name@1/mod.ts: YES. The members are "export", the export of a JSR
@@ -210,10 +210,10 @@ int32_t semver_why(uint32_t what, uint32_t grammar, const char *text, size_t tex
  * strict one. */
 int32_t semver_reference(const char *text, size_t text_len, char *out, size_t out_len, size_t *needed);
 
-/* What is wrong with a package, or with a reference, as JSON: YES, with an array as of semver_errors, for the range of a valid text or an
- * invalid range; the indexes are those of the whole text. Any other error is the only one: "end" is the text's length, "message" that of
- * semver_package or semver_reference, and "expected" has the part that is missing at "start": "@", "/", "name", or "jsr:" and "npm:". It is
- * empty for a path that isn't allowed, and for a version in the path. */
+/* What is wrong with a package or a reference, as JSON: YES, with an array as of semver_errors, with indexes of the whole string, if its
+ * parts are there. If they aren't, the array has one error: "end" is the string's length, "message" that of semver_package or
+ * semver_reference, and "expected" has what is missing at "start": "@", "/", "name", or "jsr:" and "npm:". It is empty for a path that
+ * isn't allowed, and for a version in the path. */
 int32_t semver_package_errors(uint32_t grammar, const char *text, size_t text_len, char *out, size_t out_len, size_t *needed);
 
 int32_t semver_reference_errors(const char *text, size_t text_len, char *out, size_t out_len, size_t *needed);
@@ -227,22 +227,22 @@ int32_t semver_name_with_version(const char *text, size_t text_len, char *out, s
 int32_t semver_version_reference(const char *text, size_t text_len, char *out, size_t out_len, size_t *needed);
 
 /* The parts of a dependency, such as jsr:@scope/name@^1.2 or npm:name@1: YES. The members are "kind", "jsr" or "npm", "normal", the
- * canonical form of the whole text, and "package", as of semver_package. The grammar is that of the range. */
+ * canonical form of the whole string, and "package", as of semver_package. The grammar is that of the range. */
 int32_t semver_dependency(uint32_t grammar, const char *text, size_t text_len, char *out, size_t out_len, size_t *needed);
 
-/* The name of the export that the path of a module in a JSR package means, such as ./mod.ts: YES. */
+/* The name of the export, such as ./mod.ts, that the path of a module in a JSR package means: YES. */
 int32_t semver_export_name(const char *path, size_t path_len, char *out, size_t out_len, size_t *needed);
 
-/* ---- values that are held across calls
+/* ---- values that you keep
  *
- * `semver_req r = {0};` is an empty handle: zero each before its first call. The calls that end in _read put a value into a handle, and
- * those that end in _free free it. No other code may write a handle, nor copy one that holds a value: the copy would be a second owner.
+ * `semver_req r = {0};` is an empty handle: zero each one before its first call. Calls that end in _read put a value into a handle, and
+ * calls that end in _free free it. Let no other code write a handle, nor copy one that holds a value: the copy would be a second owner.
  *
- * A call that takes a handle with `const` only reads the handle and its value, in place. So it may be given one handle twice, and several
- * threads may ask one handle at once, as long as none reads into it or frees it. That is tested, not proved.
+ * A call that takes a handle with `const` only reads it, and its value where it lies. So you may pass one handle twice, and several threads
+ * may ask one handle at once, as long as none reads into it or frees it. That is tested, not proved.
  *
- * If a handle is empty, or holds a value of another kind, the code is NO_VALUE: a call that writes a text writes the error message, one
- * that writes a list stores 0 in `*needed`, and all else stays as it was, unless said otherwise. */
+ * If a handle is empty, or holds a value of another kind, the code is NO_VALUE. Then a call that writes a string writes the error message,
+ * a call that writes a list stores 0 in `*needed`, and all else stays as it was, unless said otherwise. */
 typedef struct {
     void *at;
 } semver_req;
@@ -271,18 +271,18 @@ int32_t semver_req_read(uint32_t grammar, const char *text, size_t text_len, sem
 int32_t semver_package_read(uint32_t grammar, const char *text, size_t text_len, semver_req *handle,
                             char *out, size_t out_len, size_t *needed);
 
-/* Parses a version into a handle, as semver_req_read does a range: YES, with its text as displayed. */
+/* Parses a version into a handle, as semver_req_read does a range: YES, with the version as it is displayed. */
 int32_t semver_version_read(const char *text, size_t text_len, semver_ver *handle,
                             char *out, size_t out_len, size_t *needed);
 
-/* Frees the value that a handle holds, if it isn't empty. It is empty then, so that to free it again does nothing. */
+/* Frees the value of a handle, which is empty then. Freeing an empty handle does nothing. */
 void semver_req_free(semver_req *handle);
 void semver_version_free(semver_ver *handle);
 
 /* Whether the range is a tag: NO or YES. */
 int32_t semver_req_is_tag(const semver_req *handle);
 
-/* Whether a version from a text matches the range: as semver_fits. */
+/* Whether the version in a string matches the range: as semver_fits. */
 int32_t semver_req_fits(const semver_req *handle, const char *version, size_t version_len, uint32_t pre_releases);
 
 /* Whether the version matches the range: NO, YES or TAG. */
@@ -295,17 +295,18 @@ int32_t semver_req_matches_release(const semver_req *handle, uint64_t major, uin
 /* Whether two ranges overlap: as semver_overlap. */
 int32_t semver_req_overlap(const semver_req *one, const semver_req *other);
 
-/* Whether two ranges mean the same, whatever texts they were parsed from: NO or YES. */
+/* Whether two ranges mean the same, whatever strings they were parsed from: NO or YES. */
 int32_t semver_req_equal(const semver_req *one, const semver_req *other);
 
-/* The order of two requirements: BEFORE, SAME or AFTER. A tag is before ranges, of two tags the greater is first, and of ranges those
- * that begin higher, and then those that end lower; builds are compared last. SAME, if they mean the same, as semver_req_equal. */
+/* The order of two ranges: BEFORE, SAME or AFTER. A tag comes before ranges, and of two tags the greater comes first. Of two ranges the
+ * one that begins higher comes first, and then the one that ends lower; builds are compared last. SAME means what semver_req_equal
+ * means. */
 int32_t semver_req_order(const semver_req *one, const semver_req *other);
 
-/* The text that the range was parsed from: YES. Without the whitespace around it, if it was parsed by npm's grammar. */
+/* The string that the range was parsed from: YES. npm's grammar trims it. */
 int32_t semver_req_text(const semver_req *handle, char *out, size_t out_len, size_t *needed);
 
-/* The canonical form of the range, and how the version is displayed: YES, or NO_MEMORY. */
+/* The canonical form of the range, and the version as it is displayed: YES, or NO_MEMORY. */
 int32_t semver_req_normal(const semver_req *handle, char *out, size_t out_len, size_t *needed);
 int32_t semver_version_text(const semver_ver *handle, char *out, size_t out_len, size_t *needed);
 
@@ -315,7 +316,7 @@ int32_t semver_version_key(const semver_ver *handle, char *out, size_t out_len, 
 /* The order of two versions: as semver_compare. */
 int32_t semver_version_compare(const semver_ver *one, const semver_ver *other);
 
-/* The order in which versions that differ only in the build are ordered by it. */
+/* The order of two versions in which builds decide last. */
 int32_t semver_version_order(const semver_ver *one, const semver_ver *other);
 
 /* Parses versions, one per line, into a handle, as semver_req_read does a range: YES, and `*lines` is the number of lines. A line that
@@ -350,7 +351,7 @@ int32_t semver_scans_read(const semver_req *range, uint32_t pre_releases, semver
 void semver_scans_free(semver_scans *handle);
 
 /* The scan at this index, counted from 0: NO, if it is about releases, or YES, if it is about pre-releases. Its keys are written to `low` and
- * `high`, as every text is. If there is none at the index, that is NO_VALUE, and both lengths are 0, as they are for an empty handle. */
+ * `high`, as every string is. If there is none at the index, the code is NO_VALUE, and both lengths are 0, as for an empty handle. */
 int32_t semver_scan(const semver_scans *handle, size_t index, char *low, size_t low_len, size_t *low_needed,
                     char *high, size_t high_len, size_t *high_needed);
 
