@@ -1,18 +1,23 @@
 #!/usr/bin/env python3
-"""Writes the table of calls in README.md from calls.tsv: what each call is named in each language, in `ranges` and in node-semver.
+"""Writes docs/CALLS.md from calls.tsv: what each call is named in each language, in `ranges` and in node-semver.
 
     bindings/calls.py [--check]
 
 Each name must be one that the language has, and each call of C, function of Python and JavaScript, and command of `ranges` must stand in a
-row; what differs is printed, and the status is 1 then. With --check nothing is written, and a table that is stale is printed as well."""
+row; what differs is printed, and the status is 1 then. With --check nothing is written, and a page that is stale is reported as well."""
 import pathlib
 import re
 import sys
 
 HERE = pathlib.Path(__file__).resolve().parent
 TOP = HERE.parent
-PAGE = HERE / "README.md"
-MARKS = ("<!-- calls.tsv, by calls.py -->\n", "<!-- end of calls.tsv -->\n")
+PAGE = TOP / "docs/CALLS.md"
+HEAD = """# Every call
+
+What each call is named, in each language, in `ranges` and in node-semver. A call of C begins with `semver_`; those that begin with `req_`, `version_`
+or `list_` ask what is held. A name with a dot is a method. `bindings/calls.py` writes this page.
+
+"""
 # Calls of C that ask nothing of a value, and commands that answer by another one's question.
 OTHERS = {
     "C": {"api", "req_read", "version_read", "list_read", "req_free", "version_free", "list_free", "scans_free", "req_text", "req_equal", "req_order", "version_text"},
@@ -83,13 +88,11 @@ def main():
     heads, *lines = [line.split("\t") for line in (HERE / "calls.tsv").read_text().splitlines()]
     rows = [dict(zip(heads, [line[0], *([it for it in cell.split(", ") if it] for cell in line[1:])])) for line in lines]
     problems = list(faults(rows))
-    before, rest = PAGE.read_text().split(MARKS[0])
-    stale, behind = rest.split(MARKS[1])
-    made = table(heads, rows)
-    if sys.argv[1:] == ["--check"]:
-        problems += ["bindings/README.md has another table: run bindings/calls.py"] * (stale != made)
-    else:
-        PAGE.write_text(before + MARKS[0] + made + MARKS[1] + behind)
+    made = HEAD + table(heads, rows)
+    if sys.argv[1:] != ["--check"]:
+        PAGE.write_text(made)
+    elif not PAGE.exists() or PAGE.read_text() != made:
+        problems.append("docs/CALLS.md is stale: run bindings/calls.py")
     print(*problems, sep="\n", end="\n" * bool(problems))
     return bool(problems)
 

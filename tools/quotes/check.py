@@ -1,8 +1,11 @@
 #!/usr/bin/env python3
 """Compares what the pages for callers quote with the sources: each contract of a CALLING.md with the function that it names, clause
 by clause. And checks each example of these pages and of README, as a crate of its own over the built libraries. Run at the top of the
-project, after rt ci; the status is 1 where a quote differs, or leaves out a clause, or isn't there, or an example isn't proved."""
+project, after rt ci; the status is 1 where a quote differs, or leaves out a clause, or isn't there, or an example isn't proved, or
+docs/DEFINITIONS.md is stale."""
 import importlib.util, pathlib, re, subprocess, sys, tempfile
+
+import definitions
 
 TOP = pathlib.Path(__file__).resolve().parents[2]
 CRATES = ("semver_base", "semver_req", "deno_semver")
@@ -148,6 +151,9 @@ def main():
         contracts, examples, wrong = contracts + found[0], examples + found[1], wrong + len(problems)
         for it in problems:
             print(f"{name}: {it}")
+    if definitions.is_stale():
+        wrong += 1
+        print("docs/DEFINITIONS.md is stale: run tools/quotes/definitions.py")
     print(f"quotes: {contracts} contracts and {examples} examples, {wrong} problems")
     return 1 if wrong else 0
 
