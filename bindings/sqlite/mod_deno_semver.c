@@ -1,5 +1,5 @@
 /* SPDX-License-Identifier: MIT */
-/* An extension of SQLite: versions and ranges of npm and JSR packages in SQL. README.md says what each function does. */
+/* An extension of SQLite: versions and ranges of npm and JSR packages in SQL. docs/DATABASES.md says what each function does. */
 #include <semver.h>
 #include <sqlite3ext.h>
 #include <stdlib.h>

@@ -1,4 +1,4 @@
-//! Asks the crate each row of the project's table (docs/TABLE.md) that concerns it, and those of `ranges.rows`, with the feature
+//! Asks the crate each row of the project's table (crates/conformance/README.md) that concerns it, and those of `ranges.rows`, with the feature
 //! `serde`, which reads the rows.
 #![cfg(feature = "serde")]
 
