@@ -223,6 +223,16 @@ fn report_invalid<O: Write, E: Write>(
             let message = "npm reads it as a tag: is a range meant?";
             report.add_with(console, entry, Cause::Rule(Rule::OddTag), message, &errors)
         }
+        (Kind::Engine, _, _) => {
+            let message = "not a version range: no version satisfies it";
+            report.add_with(
+                console,
+                entry,
+                Cause::Rule(Rule::OddEngine),
+                message,
+                &errors,
+            )
+        }
         (_, _, _) => report.add_with(
             console,
             entry,
@@ -243,6 +253,10 @@ fn check_tag<O: Write, E: Write>(
     if entry.kind == Kind::Dependency && npm::read_range(tag).reading == Reading::Refused {
         let message = "npm refuses the tag: it has a character that URLs don't";
         return report.add(console, entry, Finding::new(Cause::Refused, message));
+    }
+    if entry.kind == Kind::Engine {
+        let message = "a tag, which no version satisfies";
+        return report.add(console, entry, Finding::by(Rule::OddEngine, message));
     }
     match question(tag) {
         Some(question) => report.add(console, entry, Finding::by(Rule::OddTag, question)),
@@ -311,6 +325,9 @@ fn check_specifier<O: Write, E: Write>(
     if !text.starts_with("npm:") && !text.starts_with("jsr:") {
         return Ok(());
     }
+    if let Some(message) = url_behind(text) {
+        return report.add(console, entry, Finding::new(Cause::Refused, message));
+    }
     match read_reference(console.alloc, text) {
         Ok(reference) => {
             let range = reference.reference.req.version_req.version_text();
@@ -318,7 +335,7 @@ fn check_specifier<O: Write, E: Write>(
         }
         Err(Problem::Invalid(invalid)) => {
             let errors = errors_of(console.alloc, Flavour::Specifier, text, &invalid)?;
-            let message = url_behind(text).unwrap_or(invalid.failure.message());
+            let message = invalid.failure.message();
             report.add_with(console, entry, Cause::Refused, message, &errors)
         }
         Err(Problem::OutOfMemory) => Err(Stop::OutOfMemory),
@@ -437,6 +454,7 @@ fn check_entry<'e, O: Write, E: Write>(
             Ok(())
         }
         Kind::Range => check_dependency(console, report, entry),
+        Kind::Engine => check_range(console, report, entry, Flavour::Npm, entry.text.as_str()),
         Kind::Specifier => check_specifier(console, report, entry),
         Kind::Version => check_version(console, report, entry),
         Kind::Manager => check_manager(console, report, entry),
@@ -455,6 +473,7 @@ fn check_entry<'e, O: Write, E: Write>(
             );
             report.add(console, entry, finding)
         }
+        Kind::Odd(message) => report.add(console, entry, Finding::by(Rule::OddEngine, message)),
         Kind::Mistake(message) => report.add(console, entry, Finding::new(Cause::Refused, message)),
         Kind::Workspace | Kind::Level => Ok(()),
     }
@@ -533,7 +552,11 @@ fn check_file<R: Input + Files + AllocGlobal, O: Write, E: Write>(
     let text = text.as_str();
     let text = text.strip_prefix('\u{feff}').unwrap_or(text);
     let entries = entries(console.alloc, file, text)?;
-    let mut report = Report { file, ..*report };
+    let mut report = Report {
+        file,
+        text,
+        ..*report
+    };
     set_levels(console, &mut report, text, entries.as_slice(), settings)?;
     check_entries(console, &mut report, text, entries.as_slice())?;
     Ok(report.status)

@@ -1,7 +1,7 @@
 //! What `ranges check` finds, and how it is printed.
 
 use crate::errors::{add_first, first_hint, first_place, print_errors};
-use crate::rules::{Level, Levels, Rule};
+use crate::rules::{Level, Levels, RULES, Rule};
 use answers::object::Object;
 use clap::ArgMatches;
 use package_answers::errors::PackageErrors;
@@ -12,7 +12,7 @@ use std::io::Write;
 use terminal::console::{Console, END, ERROR, Status, Stop, WARNING, print_line};
 use terminal::entry::Entry;
 use terminal::sections::Kind;
-use terminal::shown::{Quoted, Shown, part};
+use terminal::shown::{Quoted, Shown};
 
 /// How findings are printed.
 #[derive(Clone, Copy, PartialEq, Eq)]
@@ -122,6 +122,8 @@ pub struct Report<'r> {
     pub canonical: bool,
     pub levels: Levels,
     pub file: &'r str,
+    /// The text of the file.
+    pub text: &'r str,
     pub position: Position,
     pub status: Status,
     /// The status of a warning.
@@ -132,7 +134,10 @@ impl Format {
     /// Prints what stands before all findings.
     pub fn begin<O: Write, E: Write>(self, console: &mut Console<O, E>) -> Result<(), Stop> {
         match self {
-            Format::Sarif => Ok(write!(console.out, "{SARIF_FRONT}")?),
+            Format::Sarif => {
+                let rules = sarif_rules(console.alloc)?.to_string(console.alloc)?;
+                Ok(write!(console.out, "{SARIF_FRONT}{rules}{SARIF_MIDDLE}")?)
+            }
             Format::Lines | Format::Json | Format::GitHub => Ok(()),
         }
     }
@@ -172,6 +177,7 @@ impl<'r> Report<'r> {
             canonical: matches.get_flag("canonical"),
             levels: Levels::new(),
             file: "-",
+            text: "",
             position: Position::START,
             status: Status::Answered,
             warning,
@@ -208,18 +214,75 @@ fn uri(alloc: Global, path: &str) -> Result<String, AllocError> {
     Ok(all)
 }
 
-// SARIF up to its results, with the names of all rules.
+// SARIF up to its rules, and between those and its results.
 const SARIF_FRONT: &str = "\
 {\"$schema\":\"https://json.schemastore.org/sarif-2.1.0.json\",\"version\":\"2.1.0\",\
-\"runs\":[{\"columnKind\":\"unicodeCodePoints\",\"tool\":{\"driver\":{\"name\":\"ranges\",\"rules\":[\
-{\"id\":\"any-zero\"},{\"id\":\"contained-alternative\"},{\"id\":\"disjoint-sections\"},\
-{\"id\":\"dropped-alternative\"},{\"id\":\"duplicate-key\"},{\"id\":\"empty-alternative\"},\
-{\"id\":\"ignored-comparator\"},{\"id\":\"meta-without-range\"},{\"id\":\"no-match\"},\
-{\"id\":\"not-canonical\"},{\"id\":\"npm-differs\"},{\"id\":\"odd-path\"},{\"id\":\"odd-tag\"},\
-{\"id\":\"pre-release-bound\"},{\"id\":\"canonical\"},{\"id\":\"invalid\"}]}},\"results\":";
+\"runs\":[{\"columnKind\":\"unicodeCodePoints\",\"tool\":{\"driver\":{\"name\":\"ranges\",\"rules\":";
+
+const SARIF_MIDDLE: &str = "}},\"results\":";
+
+// What is found without a rule: its name and level, what it is, and what to do.
+const OTHERS: [[&str; 4]; 2] = [
+    [
+        "canonical",
+        "note",
+        "The canonical form of a range.",
+        "Nothing is wrong: --canonical prints each range with this form.",
+    ],
+    [
+        "invalid",
+        "error",
+        "What reads the file refuses the text.",
+        "Write a range, a version or a specifier, as the message says.",
+    ],
+];
 
 // What follows the results.
 const SARIF_END: &str = "}]}";
+
+// A text as SARIF has it.
+fn sarif_text(alloc: Global, text: &str) -> Result<Value, AllocError> {
+    Object::new(alloc).put_text("text", Some(text)).into_json()
+}
+
+// A rule in SARIF: its name, its level, what it finds, and what to do. A rule without a level is off.
+fn sarif_rule(
+    alloc: Global,
+    name: &str,
+    level: Option<&str>,
+    finds: &str,
+    help: &str,
+) -> Result<Value, AllocError> {
+    let both = format!(in alloc; "{finds} {help}")?;
+    let setting = match level {
+        Some(level) => Object::new(alloc).put_text("level", Some(level)),
+        None => Object::new(alloc).put("enabled", Ok(Value::Bool(false))),
+    };
+    Object::new(alloc)
+        .put("defaultConfiguration", setting.into_json())
+        .put("fullDescription", sarif_text(alloc, both.as_str()))
+        .put("help", sarif_text(alloc, help))
+        .put_text("id", Some(name))
+        .put("shortDescription", sarif_text(alloc, finds))
+        .into_json()
+}
+
+// The rules in SARIF.
+fn sarif_rules(alloc: Global) -> Result<Value, AllocError> {
+    let mut all = Vec::new(alloc);
+    for about in &RULES {
+        let level = match about.level {
+            Level::Off => None,
+            Level::Warning => Some("warning"),
+            Level::Error => Some("error"),
+        };
+        all.push(sarif_rule(alloc, about.name, level, about.finds, about.help)?)?;
+    }
+    for [name, level, finds, help] in OTHERS {
+        all.push(sarif_rule(alloc, name, Some(level), finds, help)?)?;
+    }
+    Ok(Value::Array(all))
+}
 
 // The grammar of an entry's range.
 fn grammar(entry: &Entry) -> Option<Flavour> {
@@ -232,7 +295,10 @@ fn grammar(entry: &Entry) -> Option<Flavour> {
 
 // Whether the entry's text is shown.
 fn has_text(entry: &Entry) -> bool {
-    !matches!(entry.kind, Kind::Mistake(_) | Kind::Meta | Kind::Repeated)
+    !matches!(
+        entry.kind,
+        Kind::Mistake(_) | Kind::Odd(_) | Kind::Meta | Kind::Repeated
+    )
 }
 
 // The name of an entry and its text, where there are such, the message, and the rule.
@@ -319,15 +385,16 @@ impl Report<'_> {
             Some(errors) => first_place(text, errors).unwrap_or((0, text.len())),
             None => (0, text.len()),
         };
-        let column = self.column_at(text, start);
-        let end = self.column_at(text, end);
+        let column = self.column_at(entry, start);
+        let end = self.column_at(entry, end);
         (column, end.max(column.saturating_add(1)))
     }
 
     // The column of an index of the entry's text.
-    fn column_at(&self, text: &str, index: usize) -> usize {
-        let count = part(text, 0, index).chars().count();
-        self.position.column.saturating_add(count)
+    fn column_at(&self, entry: &Entry, index: usize) -> usize {
+        let mut position = self.position;
+        position.move_to(self.text, entry.index_of(self.text, index));
+        position.column
     }
 
     // A finding as an annotation of GitHub.

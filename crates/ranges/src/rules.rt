@@ -13,68 +13,157 @@ pub enum Level {
 /// A rule about ranges, and about the files that hold them.
 #[derive(Clone, Copy, PartialEq, Eq)]
 pub enum Rule {
-    NoMatch,
+    AnyZero,
     ContainedAlternative,
+    DisjointSections,
     DroppedAlternative,
+    DuplicateKey,
     EmptyAlternative,
     IgnoredComparator,
-    NpmDiffers,
-    OddTag,
-    OddPath,
-    AnyZero,
-    DisjointSections,
-    DuplicateKey,
     MetaWithoutRange,
+    NoMatch,
     NotCanonical,
+    NpmDiffers,
+    OddEngine,
+    OddPath,
+    OddTag,
     PreReleaseBound,
 }
 
-// A rule, its name, and its level where nothing sets it.
+/// A rule, its level where nothing sets it, what it finds, and what to do.
 #[derive(Clone, Copy)]
-struct Row(Rule, &'static str, Level);
+pub struct About {
+    pub rule: Rule,
+    pub name: &'static str,
+    pub level: Level,
+    pub finds: &'static str,
+    pub help: &'static str,
+}
 
-const RULES: [Row; 14] = [
-    Row(Rule::AnyZero, "any-zero", Level::Warning),
-    Row(
-        Rule::ContainedAlternative,
-        "contained-alternative",
-        Level::Warning,
-    ),
-    Row(Rule::DisjointSections, "disjoint-sections", Level::Warning),
-    Row(
-        Rule::DroppedAlternative,
-        "dropped-alternative",
-        Level::Warning,
-    ),
-    Row(Rule::DuplicateKey, "duplicate-key", Level::Warning),
-    Row(Rule::EmptyAlternative, "empty-alternative", Level::Warning),
-    Row(
-        Rule::IgnoredComparator,
-        "ignored-comparator",
-        Level::Warning,
-    ),
-    Row(Rule::MetaWithoutRange, "meta-without-range", Level::Off),
-    Row(Rule::NoMatch, "no-match", Level::Warning),
-    Row(Rule::NotCanonical, "not-canonical", Level::Off),
-    Row(Rule::NpmDiffers, "npm-differs", Level::Warning),
-    Row(Rule::OddPath, "odd-path", Level::Warning),
-    Row(Rule::OddTag, "odd-tag", Level::Warning),
-    Row(Rule::PreReleaseBound, "pre-release-bound", Level::Off),
+const COUNT: usize = 15;
+
+/// All rules, by name.
+pub const RULES: [About; COUNT] = [
+    About {
+        rule: Rule::AnyZero,
+        name: "any-zero",
+        level: Level::Warning,
+        finds: "`^0` matches every 0.x, each of which may break what the one before did.",
+        help: "Name the minor version, as in `^0.4`.",
+    },
+    About {
+        rule: Rule::ContainedAlternative,
+        name: "contained-alternative",
+        level: Level::Warning,
+        finds: "An alternative that another contains is needless.",
+        help: "Leave it out: `^1.2 || ^1` means `^1`.",
+    },
+    About {
+        rule: Rule::DisjointSections,
+        name: "disjoint-sections",
+        level: Level::Warning,
+        finds: "Two sections ask for a package by ranges that no version matches both of.",
+        help: "Change one of the two ranges, so that some version matches both.",
+    },
+    About {
+        rule: Rule::DroppedAlternative,
+        name: "dropped-alternative",
+        level: Level::Warning,
+        finds: "npm leaves out an alternative that isn't a range, and keeps the others.",
+        help: "Write a range in its place, or leave it out: of `^1 || latest` npm reads `^1`.",
+    },
+    About {
+        rule: Rule::DuplicateKey,
+        name: "duplicate-key",
+        level: Level::Warning,
+        finds: "A key stands in an object twice. Readers of JSON take the last one.",
+        help: "Keep one of the two.",
+    },
+    About {
+        rule: Rule::EmptyAlternative,
+        name: "empty-alternative",
+        level: Level::Warning,
+        finds: "An empty range or alternative matches every version.",
+        help: "Write `*` if that is meant.",
+    },
+    About {
+        rule: Rule::IgnoredComparator,
+        name: "ignored-comparator",
+        level: Level::Warning,
+        finds: "npm ignores a word that isn't a comparator.",
+        help: "Write `||` for `or`, and a space for `and`, `,` and `&&`.",
+    },
+    About {
+        rule: Rule::MetaWithoutRange,
+        name: "meta-without-range",
+        level: Level::Off,
+        finds: "peerDependenciesMeta names a package that peerDependencies has no range for.",
+        help: "Add its range to peerDependencies.",
+    },
+    About {
+        rule: Rule::NoMatch,
+        name: "no-match",
+        level: Level::Warning,
+        finds: "No version matches the range or the alternative.",
+        help: "Correct its bounds, or leave it out.",
+    },
+    About {
+        rule: Rule::NotCanonical,
+        name: "not-canonical",
+        level: Level::Off,
+        finds: "The range isn't written in its canonical form.",
+        help: "Write what `ranges canonical` prints, or run `ranges check --fix`.",
+    },
+    About {
+        rule: Rule::NpmDiffers,
+        name: "npm-differs",
+        level: Level::Warning,
+        finds: "npm reads the text in another way than Deno.",
+        help: "Write a range that both read alike: npm reads `1.x.3` as `1.x`.",
+    },
+    About {
+        rule: Rule::OddEngine,
+        name: "odd-engine",
+        level: Level::Warning,
+        finds: "What `engines` holds is no range, so that no version satisfies it, or package managers pass over it.",
+        help: "Write a range in a string, as in `>=20`.",
+    },
+    About {
+        rule: Rule::OddPath,
+        name: "odd-path",
+        level: Level::Warning,
+        finds: "npm takes a text with a `/` that begins as a range does for a folder, or for a repository of GitHub.",
+        help: "Leave the `/` out if a range is meant, and begin the path of a folder with `./`.",
+    },
+    About {
+        rule: Rule::OddTag,
+        name: "odd-tag",
+        level: Level::Warning,
+        finds: "The tag is one that hardly any package has.",
+        help: "Write the range or the tag that is meant: `1-2`, `LATEST` and `undefined` are tags to npm.",
+    },
+    About {
+        rule: Rule::PreReleaseBound,
+        name: "pre-release-bound",
+        level: Level::Off,
+        finds: "A bound is a pre-release, so pre-releases of its three numbers match.",
+        help: "Write the bound without its pre-release, unless that is meant.",
+    },
 ];
 
 impl Rule {
     /// The rule's name.
     pub fn name(self) -> &'static str {
-        match RULES.iter().find(|row| row.0 == self) {
-            Some(row) => row.1,
+        match RULES.iter().find(|about| about.rule == self) {
+            Some(about) => about.name,
             None => "",
         }
     }
 }
 
-/// The rules with their levels.
+/// The levels of the rules, in their order.
 #[derive(Clone, Copy)]
-pub struct Levels([Row; 14]);
+pub struct Levels([Level; COUNT]);
 
 /// What isn't known of a setting.
 #[derive(Clone, Copy)]
@@ -90,8 +179,8 @@ impl fmt::Display for Unknown {
             Unknown::Rule => {
                 f.write_str("no such rule; there are")?;
                 let mut separator = " ";
-                for row in &RULES {
-                    write!(f, "{separator}{}", row.1)?;
+                for about in &RULES {
+                    write!(f, "{separator}{}", about.name)?;
                     separator = ", ";
                 }
                 Ok(())
@@ -103,13 +192,22 @@ impl fmt::Display for Unknown {
 impl Levels {
     /// The levels where nothing sets them.
     pub fn new() -> Levels {
-        Levels(RULES)
+        let mut levels = [Level::Off; COUNT];
+        for (level, about) in levels.iter_mut().zip(&RULES) {
+            *level = about.level;
+        }
+        Levels(levels)
     }
 
     /// The level of a rule.
     pub fn of(&self, rule: Rule) -> Level {
-        match self.0.iter().find(|row| row.0 == rule) {
-            Some(row) => row.2,
+        match self
+            .0
+            .iter()
+            .zip(&RULES)
+            .find(|(_, about)| about.rule == rule)
+        {
+            Some((level, _)) => *level,
             None => Level::Off,
         }
     }
@@ -122,12 +220,12 @@ impl Levels {
             "error" => Level::Error,
             _ => return Err(Unknown::Level),
         };
-        match self.0.iter_mut().find(|row| row.1 == name) {
-            Some(row) => {
-                row.2 = level;
-                Ok(())
-            }
-            None => Err(Unknown::Rule),
+        let Some(place) = RULES.iter().position(|about| about.name == name) else {
+            return Err(Unknown::Rule);
+        };
+        if let Some(old) = self.0.get_mut(place) {
+            *old = level;
         }
+        Ok(())
     }
 }

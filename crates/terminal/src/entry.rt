@@ -1,6 +1,8 @@
 //! What stands in a file of ranges.
 
+use crate::escaped::written_index;
 use crate::sections::Kind;
+use crate::shown::part;
 use std::alloc::Global;
 
 /// A text of a file, or a mistake in it.
@@ -8,11 +10,15 @@ use std::alloc::Global;
 pub struct Entry {
     /// The first key on the way to it; empty in plain lines.
     pub section: &'static str,
+    /// The key of the object that it is in, such as the name of a catalog; empty at the top of the file.
+    pub object: String,
     /// Its key: what depends on it. Empty in plain lines.
     pub name: String,
     pub text: String,
     /// The index of its first byte in the file.
     pub start: usize,
+    /// The index behind its last byte in the file, where its text may have escapes.
+    pub end: usize,
     pub kind: Kind,
 }
 
@@ -21,10 +27,23 @@ impl Entry {
     pub(crate) fn of_file(alloc: Global, start: usize, message: &'static str) -> Entry {
         Entry {
             section: "",
+            object: String::new(alloc),
             name: String::new(alloc),
             text: String::new(alloc),
             start,
+            end: start,
             kind: Kind::Mistake(message),
         }
+    }
+
+    /// The index in the file of the byte with this index of the text.
+    pub fn index_of(&self, file: &str, index: usize) -> usize {
+        let written = part(file, self.start, self.end);
+        let index = if written.len() == self.text.len() {
+            index
+        } else {
+            written_index(written, index)
+        };
+        self.start.saturating_add(index)
     }
 }

@@ -5,6 +5,7 @@ pub mod args;
 mod commented;
 pub mod console;
 pub mod entry;
+mod escaped;
 pub mod hints;
 pub mod input;
 mod json;

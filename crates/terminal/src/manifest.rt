@@ -22,6 +22,27 @@ pub fn unescaped(alloc: Global, raw: &str) -> Result<String, AllocError> {
     }
 }
 
+// What is said of a value that begins with this character, where something else belongs. npm takes `null` for no engines.
+fn misplaced(c: char, place: Place, is_engines: bool) -> Option<Kind> {
+    let message = match place.text {
+        Some((Kind::Engine, _)) if c == 'n' => return None,
+        Some((Kind::Engine, _)) => {
+            return Some(Kind::Odd("not a string: no version satisfies it"));
+        }
+        Some((Kind::Version, _)) => "expected a string, such as \"1.2.3\"",
+        Some((Kind::Manager, _)) => "expected a string, such as \"npm@1.2.3\"",
+        Some((Kind::Level, _)) => "expected a string, such as \"off\"",
+        Some(_) => "expected a string, such as \"^1.2\"",
+        None if is_engines && c == 'n' => return None,
+        None if is_engines => {
+            return Some(Kind::Odd("not an object: package managers pass over it"));
+        }
+        None if place.has_object => "expected an object",
+        None => return None,
+    };
+    Some(Kind::Mistake(message))
+}
+
 // An object or an array that isn't closed.
 #[derive(Drop)]
 struct Open {
@@ -77,12 +98,18 @@ impl Scanner<'_> {
             Some(key) => String::from_str(self.alloc, key.as_str())?,
             None => String::new(self.alloc),
         };
+        let object = match self.path.last() {
+            Some(object) => String::from_str(self.alloc, object.as_str())?,
+            None => String::new(self.alloc),
+        };
         let text = unescaped(self.alloc, raw)?;
         let entry = Entry {
             section,
+            object,
             name,
             text,
             start,
+            end: start.saturating_add(raw.len()),
             kind,
         };
         Ok(self.entries.push(entry)?)
@@ -106,17 +133,12 @@ impl Scanner<'_> {
             ('[', _) => place.has_array,
             (_, _) => false,
         };
-        let mistake = match place.text {
-            _ if is_there || !place.is_strict => None,
-            Some((Kind::Version, _)) => Some("expected a string, such as \"1.2.3\""),
-            Some((Kind::Manager, _)) => Some("expected a string, such as \"npm@1.2.3\""),
-            Some((Kind::Level, _)) => Some("expected a string, such as \"off\""),
-            Some(_) => Some("expected a string, such as \"^1.2\""),
-            None if place.has_object => Some("expected an object"),
-            None => None,
-        };
-        match mistake {
-            Some(message) => self.add("", index, Kind::Mistake(message), ""),
+        if is_there || !place.is_strict {
+            return Ok(());
+        }
+        let is_engines = self.path.is_empty() && self.key.as_deref() == Some("engines");
+        match misplaced(c, place, is_engines) {
+            Some(kind) => self.add("", index, kind, ""),
             None => Ok(()),
         }
     }
@@ -297,11 +319,14 @@ fn of_lines(alloc: Global, file: &str) -> Result<Vec<Entry>, AllocError> {
             } else {
                 Kind::Range
             };
+            let start = start.saturating_add(indent);
             let entry = Entry {
                 section: "",
+                object: String::new(alloc),
                 name: String::new(alloc),
                 text: String::from_str(alloc, text)?,
-                start: start.saturating_add(indent),
+                start,
+                end: start.saturating_add(text.len()),
                 kind,
             };
             entries.push(entry)?;

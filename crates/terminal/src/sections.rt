@@ -7,6 +7,8 @@ pub enum Kind {
     Range,
     /// What a package manager installs: such a range, a tag or another protocol.
     Dependency,
+    /// A range that a runtime or a package manager should match.
+    Engine,
     /// A specifier, of which those of npm and JSR name a package.
     Specifier,
     /// A version.
@@ -21,6 +23,8 @@ pub enum Kind {
     Level,
     /// A key that stands in its object before.
     Repeated,
+    /// What is accepted, and no range, as the message says.
+    Odd(&'static str),
     /// Something else, as the message says.
     Mistake(&'static str),
 }
@@ -46,7 +50,7 @@ const SECTIONS: [Section; 28] = [
     Section(&["catalogs", "*", "*"], Kind::Dependency, 1),
     Section(&["workspaces", "catalog", "*"], Kind::Dependency, 2),
     Section(&["workspaces", "catalogs", "*", "*"], Kind::Dependency, 2),
-    Section(&["engines", "*"], Kind::Range, 2),
+    Section(&["engines", "*"], Kind::Engine, 1),
     Section(&["devEngines", "*", "version"], Kind::Range, 3),
     Section(&["devEngines", "*", "[]", "version"], Kind::Range, 4),
     Section(&["packageManager"], Kind::Manager, 1),

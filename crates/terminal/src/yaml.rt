@@ -85,11 +85,18 @@ impl Reader {
             kind
         };
         let name = if key == ITEM { "" } else { key };
+        let object = match self.path.last() {
+            Some(key) => key.as_str(),
+            None => "",
+        };
+        let start = start.saturating_add(before);
         let entry = Entry {
             section,
+            object: String::from_str(self.alloc, object)?,
             name: String::from_str(self.alloc, name)?,
             text: String::from_str(self.alloc, inner)?,
-            start: start.saturating_add(before),
+            start,
+            end: start.saturating_add(inner.len()),
             kind,
         };
         Ok(self.entries.push(entry)?)
