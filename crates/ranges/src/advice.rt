@@ -49,6 +49,19 @@ fn is_contained(alloc: Global, one: &Piece, other: &Piece) -> Result<bool, Alloc
     }
 }
 
+// Whether one alternative is another without its pre-release, as of `^6.0.0 || ^6.0.0-pre.1`, which packages write on purpose.
+fn is_release_of(one: &Piece, other: &Piece) -> bool {
+    match other
+        .text
+        .as_str()
+        .trim()
+        .strip_prefix(one.text.as_str().trim())
+    {
+        Some(rest) => rest.starts_with('-'),
+        None => false,
+    }
+}
+
 // Whether the alternative is a range, not empty, that some version matches.
 fn has_match(piece: &Piece) -> bool {
     match &piece.meaning {
@@ -66,7 +79,8 @@ pub fn contained(alloc: Global, pieces: &[Piece]) -> Result<Vec<(usize, usize)>,
     }
     for (place, piece) in pieces.iter().enumerate() {
         for (other_place, other) in pieces.iter().enumerate() {
-            if place == other_place || !has_match(piece) || !has_match(other) {
+            let is_asked = place != other_place && has_match(piece) && has_match(other);
+            if !is_asked || is_release_of(piece, other) {
                 continue;
             }
             let is_needless = is_contained(alloc, piece, other)?

@@ -10,15 +10,20 @@ use answers::reading;
 use deno_semver::PreRelease;
 use package_answers::references::read_reference;
 use semver_req::common::values::Flavour;
+use semver_req::error_places::pieces::invalid_pieces_behind;
 use std::alloc::{AllocError, Global};
-use std::fs::{OpenFile, Permissions};
+use std::fs::{Metadata, OpenFile, Permissions};
 use std::io::{ErrorKind, Write};
+use std::os::unix::fs as unix;
+use std::os::unix::fs::MetadataExt;
+use std::path::PathBuf;
 use std::rt::Files;
 use std::{fs, io};
 use terminal::console::{Console, Status, Stop};
 use terminal::entry::Entry;
+use terminal::hints::corrected;
 use terminal::manifest::entries;
-use terminal::npm::{Reading, Source, number_behind_wildcard, read_range, source_of};
+use terminal::npm::{Reading, Source, number_behind_wildcard, read_range, renamed, source_of};
 use terminal::sections::Kind;
 use terminal::shown::Shown;
 
@@ -32,8 +37,8 @@ struct Found<'t> {
     flavour: Flavour,
 }
 
-// The range in a specifier of npm or JSR.
-fn in_specifier(alloc: Global, text: &str) -> Result<Option<Found<'_>>, Stop> {
+/// The range in a specifier of npm or JSR, and where it starts there.
+pub fn range_of_specifier(alloc: Global, text: &str) -> Result<Option<(&str, usize)>, Stop> {
     let reference = match read_reference(alloc, text) {
         Ok(reference) => reference,
         Err(Problem::Invalid(_)) => return Ok(None),
@@ -49,20 +54,34 @@ fn in_specifier(alloc: Global, text: &str) -> Result<Option<Found<'_>>, Stop> {
         .strip_prefix('@')
         .is_some_and(|it| it.starts_with(range));
     Ok(match text.get(start..start.saturating_add(range.len())) {
-        Some(range) if is_there => Some(Found {
-            range,
-            start,
-            flavour: Flavour::Specifier,
-        }),
+        Some(range) if is_there => Some((range, start)),
         _ => None,
     })
+}
+
+// What a specifier has in place of a range, up to its path, and where that starts.
+fn range_behind_name(text: &str) -> Option<(&str, usize)> {
+    let name = renamed(text)?;
+    let start = text.find(':')?.saturating_add(name.len()).saturating_add(2);
+    Some((text.get(start..)?.split('/').next()?, start))
 }
 
 // The range in the text of an entry.
 fn found_in(alloc: Global, entry: &Entry) -> Result<Option<Found<'_>>, Stop> {
     let text = entry.text.as_str();
     let range = match entry.kind {
-        Kind::Specifier => return in_specifier(alloc, text),
+        Kind::Specifier => {
+            let valid = range_of_specifier(alloc, text)?;
+            return Ok(match valid.or(range_behind_name(text)) {
+                Some((range, start)) => Some(Found {
+                    range,
+                    start,
+                    flavour: Flavour::Specifier,
+                }),
+                None => None,
+            });
+        }
+        Kind::Engine => text,
         Kind::Dependency | Kind::Range => match source_of(text) {
             Source::Registry(range) => range,
             _ if entry.kind == Kind::Range && text.contains(' ') => text,
@@ -165,15 +184,78 @@ fn shortened(
     }
 }
 
-// What a range is rewritten to, if it means the same to npm.
-fn better(alloc: Global, levels: &Levels, found: Found<'_>) -> Result<Option<String>, Stop> {
+// Whether a range with mistakes is corrected: npm refuses it, or a rule that isn't off finds it. Of a tag that is only a guess.
+fn is_found(levels: &Levels, kind: Kind, range: &str) -> bool {
+    if kind != Kind::Dependency {
+        return kind != Kind::Engine || levels.of(Rule::OddEngine) != Level::Off;
+    }
+    let read = read_range(range);
+    let rule = match read.reading {
+        Reading::Tag => return false,
+        Reading::Refused | Reading::TooLarge => return true,
+        Reading::Range if read.ignored.is_some() => Rule::IgnoredComparator,
+        Reading::Range if read.dropped.is_some() => Rule::DroppedAlternative,
+        Reading::Range => Rule::NpmDiffers,
+    };
+    levels.of(rule) != Level::Off
+}
+
+// More mistakes in a range aren't corrected.
+const MANY: usize = 8;
+
+// The range without its mistakes, if there is one way to correct each of them.
+fn without_mistakes(
+    alloc: Global,
+    flavour: Flavour,
+    range: &str,
+) -> Result<Option<String>, AllocError> {
+    let mut range = String::from_str(alloc, range)?;
+    for _ in 0..MANY {
+        let errors = invalid_pieces_behind(alloc, 0, range.as_str(), flavour)?;
+        let Some(first) = errors.first() else {
+            return Ok(Some(range));
+        };
+        range = match corrected(alloc, range.as_str(), first, flavour)? {
+            Some(better) => better,
+            None => return Ok(None),
+        };
+    }
+    Ok(None)
+}
+
+// Whether a text is a tag in this grammar.
+fn is_tag(alloc: Global, flavour: Flavour, text: &str) -> Result<bool, Stop> {
+    match reading::range(alloc, flavour, 0, text) {
+        Ok(range) => Ok(range.tag().is_some()),
+        Err(Problem::Invalid(_)) => Ok(false),
+        Err(Problem::OutOfMemory) => Err(Stop::OutOfMemory),
+    }
+}
+
+// What a range is rewritten to, if it means the same to npm, or has mistakes that can be corrected in one way.
+fn better(
+    alloc: Global,
+    levels: &Levels,
+    kind: Kind,
+    found: Found<'_>,
+) -> Result<Option<String>, Stop> {
     let (range, flavour) = (found.range, found.flavour);
     let has_commas = range.contains(',') || range.contains('&');
     if has_commas && levels.of(Rule::IgnoredComparator) == Level::Off {
         return Ok(None);
     }
     let spaced = with_spaces(alloc, range)?;
-    let text = spaced.as_str();
+    if is_tag(alloc, flavour, spaced.as_str())? {
+        return Ok(None);
+    }
+    let Some(text) = without_mistakes(alloc, flavour, spaced.as_str())? else {
+        return Ok(None);
+    };
+    let text = text.as_str();
+    let is_corrected = text != spaced.as_str();
+    if is_corrected && !is_found(levels, kind, range) {
+        return Ok(None);
+    }
     // Deno has no version below 0.0.0, and npm has pre-releases of it.
     let is_odd = text.trim_end().ends_with("||")
         || text.contains("0.0.0-")
@@ -185,7 +267,7 @@ fn better(alloc: Global, levels: &Levels, found: Found<'_>) -> Result<Option<Str
         return Ok(None);
     };
     if levels.of(Rule::NotCanonical) == Level::Off {
-        let is_new = has_commas || kept.len() < range.trim().len();
+        let is_new = has_commas || is_corrected || kept.len() < range.trim().len();
         return Ok(if is_new { Some(kept) } else { None });
     }
     match canonical(alloc, flavour, kept.as_str())? {
@@ -225,11 +307,18 @@ struct Edit<'t> {
 }
 
 impl Edit<'_> {
-    // Writes a range in place of one in an entry, unless that has escapes.
+    // Writes a range in place of one in an entry, unless it is the same, or a string of JSON would need escapes.
     fn put(&mut self, entry: &Entry, found: Found<'_>, range: &str) -> Result<(), AllocError> {
-        let start = entry.start.saturating_add(found.start);
-        let end = start.saturating_add(found.range.len());
-        if self.text.get(start..end) != Some(found.range) || range == found.range.trim() {
+        let start = entry.index_of(self.text, found.start);
+        let found_end = found.start.saturating_add(found.range.len());
+        let end = entry.index_of(self.text, found_end);
+        // In a specifier whitespace is a mistake.
+        let old = match found.flavour {
+            Flavour::Specifier => found.range,
+            _ => found.range.trim(),
+        };
+        let is_same = range == old;
+        if is_same || range.contains(|c: char| c.is_control() || matches!(c, '"' | '\\')) {
             return Ok(());
         }
         let before = self.text.get(self.taken..start).unwrap_or("");
@@ -262,7 +351,7 @@ fn with_fixes(alloc: Global, path: &str, file: &str, settings: &[&str]) -> Resul
     };
     for entry in entries.iter() {
         if let Some(found) = found_in(alloc, entry)?
-            && let Some(range) = better(alloc, &levels, found)?
+            && let Some(range) = better(alloc, &levels, entry.kind, found)?
         {
             edit.put(entry, found, range.as_str())?;
         }
@@ -273,29 +362,6 @@ fn with_fixes(alloc: Global, path: &str, file: &str, settings: &[&str]) -> Resul
 }
 
 // ---- files
-
-// Writes a new file in place of another: beside it, and then under its name.
-fn replace<R: Files + AllocGlobal>(rt: &R, path: &str, text: &str) -> io::Result<()> {
-    let real = fs::canonicalize(rt, path)?;
-    let mode = fs::metadata(rt, real.as_str())?.permissions();
-    let beside = format!(in rt.alloc(); "{}.ranges-new", real.as_str())?;
-    let mut file = fs::File::create_new(rt, beside.as_str())?;
-    let written = fill(&mut file, text, mode);
-    let moved = match written {
-        Ok(()) => fs::rename(rt, beside.as_str(), real.as_str()),
-        error => error,
-    };
-    if moved.is_err() {
-        let _ = fs::remove_file(rt, beside.as_str());
-    }
-    moved
-}
-
-fn fill<F: Write + OpenFile>(file: &mut F, text: &str, mode: Permissions) -> io::Result<()> {
-    file.write_all(text.as_bytes())?;
-    file.set_permissions(mode)?;
-    file.sync_all()
-}
 
 // A file with better ranges.
 struct Rewritten {
@@ -313,22 +379,150 @@ impl Drop for Rewritten {
     }
 }
 
-// Writes what was rewritten, and reports what can't be.
+// Where a file is written: beside the old one, and then under its name.
+#[derive(Drop)]
+struct Target<'r> {
+    file: &'r Rewritten,
+    real: PathBuf,
+    beside: String,
+    data: Metadata,
+}
+
+fn target<'r, R: Files + AllocGlobal>(rt: &R, file: &'r Rewritten) -> io::Result<Target<'r>> {
+    let real = fs::canonicalize(rt, file.path.as_str())?;
+    let data = fs::metadata(rt, real.as_str())?;
+    let beside = format!(in rt.alloc(); "{}.ranges-new", real.as_str())?;
+    Ok(Target {
+        file,
+        real,
+        beside,
+        data,
+    })
+}
+
+impl Target<'_> {
+    // Writes a text beside the file. Only a whole one stays there.
+    fn write<R: Files>(&self, rt: &R, text: &str) -> io::Result<()> {
+        let mut file = fs::File::create_new(rt, self.beside.as_str())?;
+        let written = fill(&mut file, text, self.data.permissions());
+        if written.is_err() {
+            self.remove(rt);
+        } else {
+            // The owner stays only where the system lets one give files away.
+            let (user, group) = (Some(self.data.uid()), Some(self.data.gid()));
+            let _ = unix::chown(rt, self.beside.as_str(), user, group);
+        }
+        written
+    }
+
+    // Gives what stands beside the file its name.
+    fn rename<R: Files>(&self, rt: &R) -> io::Result<()> {
+        fs::rename(rt, self.beside.as_str(), self.real.as_str())
+    }
+
+    fn remove<R: Files>(&self, rt: &R) {
+        let _ = fs::remove_file(rt, self.beside.as_str());
+    }
+
+    // Writes what the file held before.
+    fn restore<R: Files>(&self, rt: &R) -> io::Result<()> {
+        self.write(rt, self.file.old.as_str())?;
+        let renamed = self.rename(rt);
+        if renamed.is_err() {
+            self.remove(rt);
+        }
+        renamed
+    }
+}
+
+fn fill<F: Write + OpenFile>(file: &mut F, text: &str, mode: Permissions) -> io::Result<()> {
+    file.write_all(text.as_bytes())?;
+    file.set_permissions(mode)?;
+    file.sync_all()
+}
+
+// Reports why a file can't be written.
+fn complain<O: Write, E: Write>(
+    console: &mut Console<O, E>,
+    path: &str,
+    error: &io::Error,
+) -> Result<Status, Stop> {
+    let reason = match error.kind() {
+        ErrorKind::OutOfMemory => return Err(Stop::OutOfMemory),
+        ErrorKind::PermissionDenied => "permission denied",
+        ErrorKind::AlreadyExists => "a file named .ranges-new stands beside it",
+        _ => "can't be written",
+    };
+    Ok(console.complain(Shown(path), reason))
+}
+
+// Where to write each file, once if it is given under several names.
+fn targets<'r, R: Files + AllocGlobal, O: Write, E: Write>(
+    rt: &R,
+    console: &mut Console<O, E>,
+    all: &'r [Rewritten],
+) -> Result<Vec<Target<'r>>, Stop> {
+    let mut targets: Vec<Target<'r>> = Vec::new(console.alloc);
+    for file in all {
+        let target = match target(rt, file) {
+            Ok(target) => target,
+            Err(error) => {
+                return Err(Stop::Ended(complain(console, file.path.as_str(), &error)?));
+            }
+        };
+        let is_new = targets
+            .iter()
+            .all(|it| it.real.as_str() != target.real.as_str());
+        if is_new {
+            targets.push(target)?;
+        }
+    }
+    Ok(targets)
+}
+
+// Writes all files that were rewritten, or none, and reports what can't be written.
 fn write_all<R: Files + AllocGlobal, O: Write, E: Write>(
     rt: &R,
     console: &mut Console<O, E>,
     all: &[Rewritten],
 ) -> Result<Status, Stop> {
+    let targets = targets(rt, console, all)?;
+    for (place, target) in targets.iter().enumerate() {
+        if let Err(error) = target.write(rt, target.file.new.as_str()) {
+            for written in targets.iter().take(place) {
+                written.remove(rt);
+            }
+            return complain(console, target.file.path.as_str(), &error);
+        }
+    }
+    for (place, target) in targets.iter().enumerate() {
+        if let Err(error) = target.rename(rt) {
+            for written in targets.iter().skip(place) {
+                written.remove(rt);
+            }
+            return undo(rt, console, targets.as_slice(), place, &error);
+        }
+    }
+    Ok(Status::Answered)
+}
+
+// Writes what the files before a place held, since the one there can't be written.
+fn undo<R: Files, O: Write, E: Write>(
+    rt: &R,
+    console: &mut Console<O, E>,
+    targets: &[Target<'_>],
+    place: usize,
+    error: &io::Error,
+) -> Result<Status, Stop> {
     let mut status = Status::Answered;
-    for file in all {
-        if let Err(error) = replace(rt, file.path.as_str(), file.new.as_str()) {
-            let reason = match error.kind() {
-                ErrorKind::OutOfMemory => return Err(Stop::OutOfMemory),
-                ErrorKind::PermissionDenied => "permission denied",
-                ErrorKind::AlreadyExists => "a file named .ranges-new stands beside it",
-                _ => "can't be written",
-            };
-            status = status.worse(console.complain(Shown(file.path.as_str()), reason));
+    for (at, target) in targets.iter().enumerate() {
+        let path = target.file.path.as_str();
+        if at == place {
+            return Ok(status.worse(complain(console, path, error)?));
+        }
+        if target.restore(rt).is_err() {
+            let message = "rewritten, and can't be restored";
+            status = status.worse(console.complain(Shown(path), message));
         }
     }
     Ok(status)

@@ -4,6 +4,7 @@ use crate::shown::{Shown, part};
 use semver_req::common::values::Flavour;
 use semver_req::error_places::causes::Cause;
 use semver_req::error_places::pieces::InvalidPiece;
+use std::alloc::{AllocError, Global};
 use std::fmt;
 
 // What package.json has in place of a range.
@@ -61,22 +62,35 @@ const DASHES: [char; 5] = ['\u{2010}', '\u{2011}', '\u{2013}', '\u{2014}', '\u{2
 // A longer text isn't repeated in a hint.
 const LONG: usize = 60;
 
+/// A part of an alternative, and what stands in its place without a mistake.
+#[derive(Clone, Copy)]
+pub struct Edit {
+    start: usize,
+    end: usize,
+    new: &'static str,
+}
+
 /// What to write in place of a mistake.
 #[derive(Clone, Copy)]
 pub enum Suggestion<'a> {
     /// A sentence.
     Says(&'static str),
+    /// A sentence that leaves one way to write the alternative.
+    Means(&'static str, Edit),
     /// What to write: a part of the text, what is missing behind it, and another part.
-    Write(&'a str, &'static str, &'a str),
+    Write(&'a str, &'static str, &'a str, Edit),
+    /// What to leave of the alternative.
+    Keep(&'a str),
 }
 
 impl fmt::Display for Suggestion<'_> {
     fn fmt<W: fmt::Write>(&self, f: &mut fmt::Formatter<W>) -> fmt::Result {
         match self {
-            Suggestion::Says(text) => f.write_str(text),
-            Suggestion::Write(one, middle, other) => {
+            Suggestion::Says(text) | Suggestion::Means(text, _) => f.write_str(text),
+            Suggestion::Write(one, middle, other, _) => {
                 write!(f, "write `{}{middle}{}`", Shown(one), Shown(other))
             }
+            Suggestion::Keep(text) => write!(f, "write `{}`", Shown(text)),
         }
     }
 }
@@ -118,6 +132,11 @@ fn looks_like_digit(c: char) -> bool {
     matches!(c, 'l' | 'I' | 'O' | 'o')
 }
 
+// Whether the character stands between the two versions of a range with `-` in another form.
+fn is_gap(c: char) -> bool {
+    c.is_whitespace() || matches!(c, '-' | '.') || DASHES.as_slice().contains(&c)
+}
+
 // Whether the text looks like one version, perhaps a partial one.
 fn is_version(text: &str) -> bool {
     text.starts_with(begins_version) && text.chars().all(is_of_version)
@@ -152,35 +171,89 @@ impl<'a> Mistake<'a> {
         })
     }
 
+    // An edit around the place: so many bytes before it, and so many from there on, become another text.
+    fn edit(&self, before: usize, after: usize, new: &'static str) -> Edit {
+        let place = self.before.len();
+        Edit {
+            start: place.saturating_sub(before),
+            end: place.saturating_add(after),
+            new,
+        }
+    }
+
+    // A sentence that means such an edit.
+    fn means(
+        &self,
+        says: &'static str,
+        before: usize,
+        after: usize,
+        new: &'static str,
+    ) -> Option<Suggestion<'a>> {
+        Some(Suggestion::Means(says, self.edit(before, after, new)))
+    }
+
+    // How many bytes of whitespace stand before the place, and from there on.
+    fn spaces(&self) -> (usize, usize) {
+        let (before, after) = (self.before.trim_end(), self.rest.trim_start());
+        (
+            self.before.len().saturating_sub(before.len()),
+            self.rest.len().saturating_sub(after.len()),
+        )
+    }
+
     // The version that the comparator has so far.
     fn version(&self) -> &'a str {
         self.front.trim_start_matches(is_operator)
     }
 
+    // A quote at the place, or else at the front.
+    fn in_quotes(&self) -> Option<Suggestion<'a>> {
+        let says = "leave the quotes out";
+        if QUOTES.as_slice().contains(&self.next) {
+            return self.means(says, 0, self.next.len_utf8(), "");
+        }
+        let front = self.before.trim_start();
+        let quote = front.chars().next()?;
+        if !QUOTES.as_slice().contains(&quote) {
+            return None;
+        }
+        let start = self.before.len().saturating_sub(front.len());
+        let edit = Edit {
+            start,
+            end: start.saturating_add(quote.len_utf8()),
+            new: "",
+        };
+        Some(Suggestion::Means(says, edit))
+    }
+
     // What holds of a version, too.
-    fn in_version(&self) -> Option<&'static str> {
-        let whole = (self.before.trim_start(), self.behind.trim_end());
-        let has_front = whole.0.starts_with(QUOTES.as_slice());
-        if has_front || QUOTES.as_slice().contains(&self.next) {
-            return Some("leave the quotes out");
+    fn in_version(&self) -> Option<Suggestion<'a>> {
+        if let Some(suggestion) = self.in_quotes() {
+            return Some(suggestion);
         }
         let version = self.version();
         // Behind a qualifier begins no fourth number.
         let has_qualifier = version.contains(['-', '+'].as_slice());
         let has_numbers = !has_qualifier && version.split('.').count() == 3;
         let is_followed = self.behind.trim_start().starts_with(begins_version);
-        match self.next {
-            'V' if version.is_empty() && is_followed => Some("write `v`, or leave it out"),
-            '.' if self.behind.starts_with('.') => None,
-            '.' if self.before.ends_with(' ') => Some("leave out the space before `.`"),
-            '.' if has_numbers => Some("a version has three numbers"),
-            c if c.is_whitespace() && version.ends_with('.') && is_followed => {
-                Some("leave out the space after `.`")
+        let spaces = self.spaces();
+        let says = match self.next {
+            'V' if version.is_empty() && is_followed => {
+                return self.means("write `v`, or leave it out", 0, 1, "");
             }
-            '_' if version.contains('+') => Some("a build has letters, digits, `-` and `.`"),
-            '_' if has_qualifier => Some("a pre-release has letters, digits, `-` and `.`"),
-            _ => None,
-        }
+            '.' if self.behind.starts_with('.') => return None,
+            '.' if self.before.ends_with(' ') => {
+                return self.means("leave out the space before `.`", spaces.0, 0, "");
+            }
+            '.' if has_numbers => "a version has three numbers",
+            c if c.is_whitespace() && version.ends_with('.') && is_followed => {
+                return self.means("leave out the space after `.`", 0, spaces.1, "");
+            }
+            '_' if version.contains('+') => "a build has letters, digits, `-` and `.`",
+            '_' if has_qualifier => "a pre-release has letters, digits, `-` and `.`",
+            _ => return None,
+        };
+        Some(Suggestion::Says(says))
     }
 
     // What a comparator lacks, whichever the grammar is.
@@ -198,7 +271,8 @@ impl<'a> Mistake<'a> {
         };
         let is_qualified = is_qualifier(tail) && !tail.starts_with(|c: char| c.is_ascii_digit());
         if has_numbers && is_qualified && !missing.is_empty() {
-            return Some(Suggestion::Write(front, missing, tail));
+            let edit = self.edit(0, self.next.len_utf8(), missing);
+            return Some(Suggestion::Write(front, missing, tail, edit));
         }
         let digit = match self.next {
             'O' | 'o' => "0",
@@ -213,7 +287,8 @@ impl<'a> Mistake<'a> {
         if !follows || numbers > 3 {
             None
         } else if tail.chars().all(is_rest) && !tail.ends_with('.') {
-            Some(Suggestion::Write(front, digit, tail))
+            let edit = self.edit(0, self.next.len_utf8(), digit);
+            Some(Suggestion::Write(front, digit, tail, edit))
         } else if tail.chars().all(|c| is_rest(c) || looks_like_digit(c)) {
             Some(Suggestion::Says("write digits for the letters"))
         } else {
@@ -237,28 +312,43 @@ impl<'a> Mistake<'a> {
         };
         let (one, other) = (one.trim(), other.trim());
         if is_version(one) && is_version(other) {
-            Some(Suggestion::Write(one, " - ", other))
+            let gap = (
+                before.trim_end_matches(is_gap),
+                self.rest.trim_start_matches(is_gap),
+            );
+            let edit = self.edit(
+                before.len().saturating_sub(gap.0.len()),
+                self.rest.len().saturating_sub(gap.1.len()),
+                " - ",
+            );
+            Some(Suggestion::Write(one, " - ", other, edit))
         } else {
             None
         }
     }
 
     // A word in place of a sign, at the place.
-    fn as_word(&self, has_hyphen: bool) -> Option<&'static str> {
+    fn as_word(&self, has_hyphen: bool) -> Option<Suggestion<'a>> {
         let is_between = self.front.is_empty() && self.before.trim_end().ends_with(is_of_version);
         if !is_between || self.behind.trim().len() <= self.tail.len() {
             return None;
         }
+        let length = self.tail.len().saturating_add(1);
         match (self.next, self.tail) {
-            ('o' | 'O', "r" | "R") => Some("write `||` for `or`"),
-            ('a' | 'A', "nd" | "ND") => Some("write a space for `and`"),
-            ('t' | 'T', "o" | "O") if has_hyphen => Some("write ` - ` for `to`"),
+            ('o' | 'O', "r" | "R") => self.means("write `||` for `or`", 0, length, "||"),
+            ('a' | 'A', "nd" | "ND") => {
+                let before = self.spaces().0;
+                self.means("write a space for `and`", before, length, "")
+            }
+            ('t' | 'T', "o" | "O") if has_hyphen => {
+                self.means("write ` - ` for `to`", 0, length, "-")
+            }
             (_, _) => None,
         }
     }
 
     // A sign in place of another, or where none can be.
-    fn as_sign(&self, flavour: Flavour) -> Option<&'static str> {
+    fn as_sign(&self, flavour: Flavour) -> Option<Suggestion<'a>> {
         let before = self.before;
         let ahead = before.trim_end();
         let follows_word = before.ends_with(|c: char| c.is_ascii_alphanumeric() || c == '*');
@@ -269,26 +359,34 @@ impl<'a> Mistake<'a> {
             && !before.ends_with(">=")
             && !before.ends_with("<=")
             && !before.ends_with("==");
-        match self.next {
-            '>' if has_equals => Some("write `>=`"),
-            '<' if has_equals => Some("write `<=`"),
-            c if is_operator(c) && before.ends_with(is_operator) => Some("write one operator"),
+        let length = self.next.len_utf8();
+        let says = match self.next {
+            '>' if has_equals => return self.means("write `>=`", 1, 1, ">="),
+            '<' if has_equals => return self.means("write `<=`", 1, 1, "<="),
+            c if is_operator(c) && before.ends_with(is_operator) => "write one operator",
             '=' if ahead.len() < before.len() && ahead.ends_with(['<', '>'].as_slice()) => {
-                Some("leave out the space before `=`")
+                return self.means("leave out the space before `=`", self.spaces().0, 0, "");
             }
             c if is_operator(c) && follows_word && is_followed => {
-                Some("put a space between two comparators")
+                return self.means("put a space between two comparators", 0, 0, " ");
             }
-            ',' | '&' if before.ends_with(',') => Some("write one separator"),
-            ',' | '&' if flavour == Flavour::Normal => Some("put a space between two comparators"),
-            c if c != '|' && before.ends_with('|') => Some("write `||`"),
-            c if c != '&' && before.ends_with('&') => Some("write a space for `&`"),
-            ';' if self.behind.trim().is_empty() => Some("leave the `;` out"),
-            ';' => Some("write `||` for `or`, a space for `and`"),
-            '\u{2265}' => Some("write `>=`"),
-            '\u{2264}' => Some("write `<=`"),
-            _ => None,
-        }
+            ',' | '&' if before.ends_with(',') => "write one separator",
+            ',' | '&' if flavour == Flavour::Normal => "put a space between two comparators",
+            // Of three, one may be too many, or an alternative missing.
+            c if c != '|' && before.trim_start() == "|" => "write `||`",
+            c if c != '|' && before.ends_with('|') => {
+                return self.means("write `||`", 0, 0, "|");
+            }
+            c if c != '&' && before.ends_with('&') => "write a space for `&`",
+            ';' if self.behind.trim().is_empty() => {
+                return self.means("leave the `;` out", 0, 1, "");
+            }
+            ';' => "write `||` for `or`, a space for `and`",
+            '\u{2265}' => return self.means("write `>=`", 0, length, ">="),
+            '\u{2264}' => return self.means("write `<=`", 0, length, "<="),
+            _ => return None,
+        };
+        Some(Suggestion::Says(says))
     }
 }
 
@@ -300,7 +398,7 @@ fn named(piece: &str) -> Option<Suggestion<'_>> {
     let is_named = name.chars().take(2).all(is_front) && name.chars().all(is_name);
     let range = range.trim();
     if is_named && name.len() > 1 && name != LATEST && is_comparator(range) {
-        Some(Suggestion::Write("", "", range))
+        Some(Suggestion::Keep(range))
     } else {
         None
     }
@@ -344,17 +442,21 @@ fn in_range<'a>(
         return Some(Suggestion::Says("this is a protocol of package.json, not a range"));
     }
     if piece.starts_with('V') && piece.chars().nth(1).is_some_and(begins_version) {
-        return Some(Suggestion::Says("write `v`, or leave it out"));
+        let start = whole.len().saturating_sub(whole.trim_start().len());
+        let edit = Edit {
+            start,
+            end: start.saturating_add(1),
+            new: "",
+        };
+        return Some(Suggestion::Means("write `v`, or leave it out", edit));
     }
     let has_hyphen = flavour == Flavour::Npm;
     if has_hyphen && let Some(suggestion) = mistake.as_hyphen() {
         return Some(suggestion);
     }
-    if let Some(says) = mistake
-        .as_sign(flavour)
-        .or_else(|| mistake.as_word(has_hyphen))
-    {
-        return Some(Suggestion::Says(says));
+    let sign = mistake.as_sign(flavour);
+    if let Some(suggestion) = sign.or(mistake.as_word(has_hyphen)) {
+        return Some(suggestion);
     }
     if let Some(suggestion) = named(piece) {
         return Some(suggestion);
@@ -373,13 +475,13 @@ fn in_range<'a>(
 }
 
 // A hint for the one comparator of a specifier.
-fn in_specifier(mistake: Mistake<'_>) -> Option<&'static str> {
+fn in_specifier(mistake: Mistake<'_>) -> Option<Suggestion<'_>> {
     let c = mistake.next;
     let is_space = c.is_whitespace();
     if is_space && (mistake.before.is_empty() || mistake.behind.trim().is_empty()) {
-        Some("leave the whitespace out")
+        mistake.means("leave the whitespace out", 0, mistake.spaces().1, "")
     } else if is_space || is_operator(c) || matches!(c, ',' | '|' | '&' | '\u{2264}' | '\u{2265}') {
-        Some("a specifier takes one comparator: `^1.2`, `~1.2` or `1.2`")
+        Some(Suggestion::Says("a specifier takes one comparator: `^1.2`, `~1.2` or `1.2`"))
     } else {
         None
     }
@@ -400,28 +502,37 @@ pub fn hint<'a>(
     if bare.ends_with(".txt") || bare.ends_with(".json") {
         return Some(Suggestion::Says("to read versions from a file, write `<` before its name"));
     }
-    if let Some(hint) = mistake.in_version() {
-        return Some(Suggestion::Says(hint));
+    if let Some(suggestion) = mistake.in_version() {
+        return Some(suggestion);
     }
+    let comparator = mistake.in_comparator();
     let hint = match grammar {
         None => None,
-        Some(Flavour::Specifier) => match mistake.in_comparator() {
-            Some(suggestion) => Some(suggestion),
-            None => match in_specifier(mistake) {
-                Some(says) => Some(Suggestion::Says(says)),
-                None => None,
-            },
-        },
-        Some(flavour) => match mistake.in_comparator() {
-            Some(suggestion) => Some(suggestion),
-            None => in_range(text, error, mistake, flavour),
-        },
+        Some(_) if comparator.is_some() => comparator,
+        Some(Flavour::Specifier) => in_specifier(mistake),
+        Some(flavour) => in_range(text, error, mistake, flavour),
     };
     match hint {
-        Some(Suggestion::Write(_, _, _)) if piece.len() > LONG => None,
+        Some(Suggestion::Write(_, _, _, _) | Suggestion::Keep(_)) if piece.len() > LONG => None,
         None if !mistake.next.is_ascii() => Some(Suggestion::Says("this character isn't ASCII")),
         hint => hint,
     }
+}
+
+/// The text without the mistake of an alternative that is invalid in this grammar, if there is one way to correct it.
+pub fn corrected(
+    alloc: Global,
+    text: &str,
+    error: &InvalidPiece,
+    grammar: Flavour,
+) -> Result<Option<String>, AllocError> {
+    let Edit { start, end, new } = match hint(text, error, Some(grammar)) {
+        Some(Suggestion::Means(_, edit) | Suggestion::Write(_, _, _, edit)) => edit,
+        _ => return Ok(None),
+    };
+    let front = part(text, 0, error.start.saturating_add(start));
+    let behind = part(text, error.start.saturating_add(end), text.len());
+    Ok(Some(format!(in alloc; "{front}{new}{behind}")?))
 }
 
 /// A hint for a reference to a package of JSR whose scope lacks its `@`, so that a version stands behind its path.
@@ -430,7 +541,10 @@ pub fn scope_hint(text: &str) -> Option<Suggestion<'_>> {
     let (scope, name) = path.split_once('/')?;
     let is_name = !name.contains(['/', ' '].as_slice());
     if is_name && scope.starts_with(|c: char| c.is_ascii_alphabetic()) && text.len() <= LONG {
-        Some(Suggestion::Write("jsr:@", "", path))
+        let end = text.len().saturating_sub(path.len());
+        let new = "jsr:@";
+        let edit = Edit { start: 0, end, new };
+        Some(Suggestion::Write("", new, path, edit))
     } else {
         None
     }
