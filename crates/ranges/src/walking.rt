@@ -48,8 +48,10 @@ fn joined(alloc: Global, folder: &str, name: &str) -> Result<String, AllocError>
 // A line of a .gitignore.
 #[derive(Drop)]
 struct Ignored {
-    /// The folder in which the file is.
+    /// The folder below which it counts.
     folder: String,
+    /// The names on the way to this folder from the one that the line speaks of.
+    lead: String,
     pattern: String,
 }
 
@@ -83,8 +85,7 @@ impl Ignored {
         let is_match = if shape.len() < bare.len() && !is_folder {
             false
         } else if shape.contains('/') {
-            let (parts, names) = (names_of(alloc, shape)?, names_of(alloc, path)?);
-            matches_path(parts.as_slice(), names.as_slice())
+            self.matches_below(alloc, shape, path)?
         } else {
             matches_name(shape, path.rsplit('/').next().unwrap_or(path))
         };
@@ -93,6 +94,20 @@ impl Ignored {
         } else {
             None
         })
+    }
+
+    // Whether a pattern with several names matches a path.
+    fn matches_below(&self, alloc: Global, shape: &str, path: &str) -> Result<bool, AllocError> {
+        let mut parts = names_of(alloc, shape)?;
+        if parts.last() == Some(&"**") {
+            // It matches all in a folder, and not the folder.
+            parts.push("*")?;
+        }
+        let mut names = names_of(alloc, self.lead.as_str())?;
+        for name in names_of(alloc, path)?.iter() {
+            names.push(*name)?;
+        }
+        Ok(matches_path(parts.as_slice(), names.as_slice()))
     }
 }
 
@@ -111,26 +126,45 @@ fn is_ignored(
     Ok(false)
 }
 
-// Adds the lines of a folder's .gitignore, but for comments, and for patterns with a sign that isn't read.
+// A line of a .gitignore without the spaces at its end, but for one behind a `\`.
+fn without_spaces(line: &str) -> &str {
+    let bare = line.trim_end_matches(' ');
+    if bare.len() < line.len() && bare.ends_with('\\') {
+        line.get(..bare.len().saturating_add(1)).unwrap_or(bare)
+    } else {
+        bare
+    }
+}
+
+// Adds the lines of a .gitignore at this path, but for comments. They count below a folder, to which the names of `lead` lead.
 fn read_ignored<R: Runtime + AllocGlobal>(
     rt: &R,
+    path: &str,
     folder: &str,
+    lead: &str,
     ignored: &mut Vec<Ignored>,
 ) -> io::Result<()> {
     let alloc = rt.alloc();
-    let path = joined(alloc, folder, ".gitignore")?;
-    let text = match fs::read_to_string(rt, path.as_str()) {
+    let text = match fs::read(rt, path) {
         Ok(text) => text,
         Err(error) if error.kind() == ErrorKind::OutOfMemory => return Err(error),
         Err(_) => return Ok(()),
     };
-    for line in text.lines() {
-        let line = line.trim_end();
-        if line.is_empty() || line.starts_with('#') || line.contains(['?', '[', '\\'].as_slice()) {
+    let text = text.as_slice();
+    let text = text
+        .strip_prefix(b"\xef\xbb\xbf".as_slice())
+        .unwrap_or(text);
+    for line in text.split(|byte| *byte == b'\n') {
+        let Ok(line) = str::from_utf8(line) else {
+            continue;
+        };
+        let line = without_spaces(line.strip_suffix('\r').unwrap_or(line));
+        if line.is_empty() || line.starts_with('#') {
             continue;
         }
         let line = Ignored {
             folder: String::from_str(alloc, folder)?,
+            lead: String::from_str(alloc, lead)?,
             pattern: String::from_str(alloc, line)?,
         };
         ignored.push(line)?;
@@ -138,16 +172,72 @@ fn read_ignored<R: Runtime + AllocGlobal>(
     Ok(())
 }
 
+// How many of these names lead to the nearest folder that has a `.git`, if one has.
+fn repository<R: Runtime + AllocGlobal>(rt: &R, names: &[&str]) -> io::Result<Option<usize>> {
+    for count in (0..=names.len()).rev() {
+        let folder = path_of(rt.alloc(), names.get(..count).unwrap_or(&[]))?;
+        let git = format!(in rt.alloc(); "{folder}/.git")?;
+        if fs::exists(rt, git.as_str()).unwrap_or(false) {
+            return Ok(Some(count));
+        }
+    }
+    Ok(None)
+}
+
+// The path that begins at the top of the system, and has these names; an empty one is that top.
+fn path_of(alloc: Global, names: &[&str]) -> Result<String, AllocError> {
+    let mut path = String::new(alloc);
+    for name in names {
+        path.push('/')?;
+        path.push_str(name)?;
+    }
+    Ok(path)
+}
+
+// What git ignores in a folder by files above it: the exclude file of its repository, and each .gitignore from there down.
+fn ignored_above<R: Runtime + AllocGlobal>(rt: &R, folder: &str) -> io::Result<Vec<Ignored>> {
+    let alloc = rt.alloc();
+    let mut ignored = Vec::new(alloc);
+    let path = if folder.is_empty() { "." } else { folder };
+    let real = match fs::canonicalize(rt, path) {
+        Ok(real) => real,
+        Err(error) if error.kind() == ErrorKind::OutOfMemory => return Err(error),
+        Err(_) => return Ok(ignored),
+    };
+    let names = names_of(alloc, real.as_str())?;
+    let names = names.as_slice();
+    let Some(top) = repository(rt, names)? else {
+        return Ok(ignored);
+    };
+    for count in top..names.len() {
+        let above = path_of(alloc, names.get(..count).unwrap_or(&[]))?;
+        let lead = path_of(alloc, names.get(count..).unwrap_or(&[]))?;
+        let lead = lead.as_str();
+        if count == top {
+            let exclude = format!(in alloc; "{above}/.git/info/exclude")?;
+            read_ignored(rt, exclude.as_str(), folder, lead, &mut ignored)?;
+        }
+        let file = format!(in alloc; "{above}/.gitignore")?;
+        read_ignored(rt, file.as_str(), folder, lead, &mut ignored)?;
+    }
+    if top == names.len() {
+        let exclude = joined(alloc, folder, ".git/info/exclude")?;
+        read_ignored(rt, exclude.as_str(), folder, "", &mut ignored)?;
+    }
+    Ok(ignored)
+}
+
 // ---- folders
 
-// Lists a folder, by the order of names, but for what is ignored.
+// Lists a folder, by the order of names, but for what is ignored, also by its own .gitignore.
 fn list<R: Runtime + AllocGlobal>(
     rt: &R,
     folder: &str,
     ignored: &mut Vec<Ignored>,
 ) -> io::Result<Folder> {
     let alloc = rt.alloc();
-    read_ignored(rt, folder, ignored)?;
+    let file = joined(alloc, folder, ".gitignore")?;
+    read_ignored(rt, file.as_str(), folder, "", ignored)?;
     let mut held = Folder {
         manifests: Vec::new(alloc),
         folders: Vec::new(alloc),
@@ -161,8 +251,10 @@ fn list<R: Runtime + AllocGlobal>(
             Err(error) => return Err(error),
         };
         let name = entry.file_name();
-        let is_folder = entry.file_type()?.is_dir();
-        if matches!(name, "node_modules" | ".git") || !is_folder && !NAMES.contains(&name) {
+        let kind = entry.file_type()?;
+        let is_folder = kind.is_dir();
+        let is_manifest = NAMES.contains(&name) && (kind.is_file() || kind.is_symlink());
+        if matches!(name, "node_modules" | ".git") || !is_folder && !is_manifest {
             continue;
         }
         let path = joined(alloc, folder, name)?;
@@ -195,8 +287,15 @@ fn complain<O: Write, E: Write>(
     Ok(console.complain(Shown(folder), reason))
 }
 
-// Finds the manifests in a folder and in those below it, but in none named `node_modules` or `.git`, nor what a `.gitignore` there
-// ignores. The folder's own come first.
+// A folder that isn't listed yet, and how many lines of what is ignored count there, without its own.
+#[derive(Drop)]
+struct Waiting {
+    folder: String,
+    ignored: usize,
+}
+
+// Finds the manifests in a folder and in those below it, but in none named `node_modules` or `.git`, nor in what git ignores. The
+// folder's own come first.
 fn manifests_in<R: Runtime + AllocGlobal, O: Write, E: Write>(
     rt: &R,
     console: &mut Console<O, E>,
@@ -207,12 +306,26 @@ fn manifests_in<R: Runtime + AllocGlobal, O: Write, E: Write>(
         paths: Vec::new(alloc),
         status: Status::Answered,
     };
-    let mut ignored = Vec::new(alloc);
-    let mut waiting = vec![in alloc; String::from_str(alloc, folder)?]?;
+    let mut ignored = match ignored_above(rt, folder) {
+        Ok(ignored) => ignored,
+        Err(_) => return Err(Stop::OutOfMemory),
+    };
+    let first = Waiting {
+        folder: String::from_str(alloc, folder)?,
+        ignored: ignored.len(),
+    };
+    let mut waiting = vec![in alloc; first]?;
     for _ in 0..u64::MAX {
-        let Some(folder) = waiting.pop() else {
+        let Some(
+            Waiting {
+                folder,
+                ignored: above,
+            },
+        ) = waiting.pop()
+        else {
             break;
         };
+        ignored.truncate(above);
         match list(rt, folder.as_str(), &mut ignored) {
             Ok(
                 Folder {
@@ -224,8 +337,9 @@ fn manifests_in<R: Runtime + AllocGlobal, O: Write, E: Write>(
                     found.paths.push(path)?;
                 }
                 for _ in 0..folders.len() {
-                    if let Some(last) = folders.pop() {
-                        waiting.push(last)?;
+                    if let Some(folder) = folders.pop() {
+                        let ignored = ignored.len();
+                        waiting.push(Waiting { folder, ignored })?;
                     }
                 }
             }
@@ -240,25 +354,87 @@ fn manifests_in<R: Runtime + AllocGlobal, O: Write, E: Write>(
 
 // ---- workspaces
 
-// Whether a name matches a pattern, in which `*` stands for any text.
-fn matches_name(pattern: &str, name: &str) -> bool {
-    let Some((front, rest)) = pattern.split_once('*') else {
-        return pattern == name;
-    };
-    let (middle, end) = rest.rsplit_once('*').unwrap_or(("", rest));
-    let mut left = name
-        .strip_prefix(front)
-        .and_then(|name| name.strip_suffix(end));
-    for part in middle.split('*') {
-        left = match left {
-            Some(text) => match text.split_once(part) {
-                Some((_, behind)) => Some(behind),
-                None => None,
-            },
-            None => None,
+// Whether a set such as `a-z_]` or `!a]`, in which `]` stands behind the last, has a character, and what follows it; none if it doesn't end.
+fn in_set(set: &str, c: char) -> Option<(bool, &str)> {
+    let members = set.strip_prefix(['!', '^'].as_slice()).unwrap_or(set);
+    // At the front `]` is a member.
+    let end = members.get(1..)?.find(']')?.saturating_add(1);
+    let mut rest = members.get(..end)?.chars();
+    let mut has = false;
+    for _ in 0..end {
+        let Some(first) = rest.next() else {
+            break;
+        };
+        let last = match rest
+            .as_str()
+            .strip_prefix('-')
+            .and_then(|it| it.chars().next())
+        {
+            Some(last) => {
+                let _ = rest.next();
+                let _ = rest.next();
+                last
+            }
+            None => first,
+        };
+        has |= first <= c && c <= last;
+    }
+    let behind = members.get(end.saturating_add(1)..)?;
+    Some((has != (members.len() < set.len()), behind))
+}
+
+// What follows in a pattern, if what it begins with takes this character: itself, `?`, a set in brackets, or a character behind `\`.
+fn behind_one(pattern: &str, c: char) -> Option<&str> {
+    if let Some(rest) = pattern.strip_prefix('?') {
+        return Some(rest);
+    }
+    if let Some(set) = pattern.strip_prefix('[') {
+        return match in_set(set, c) {
+            Some((true, rest)) => Some(rest),
+            _ => None,
         };
     }
-    left.is_some()
+    pattern
+        .strip_prefix('\\')
+        .unwrap_or(pattern)
+        .strip_prefix(c)
+}
+
+// Whether a name matches a pattern, in which `*` stands for any text.
+fn matches_name(pattern: &str, name: &str) -> bool {
+    let (mut pattern, mut name) = (pattern, name);
+    // Where the pattern goes on behind the last `*`, and the text from which on that could take one more character.
+    let mut again = None;
+    for _ in 0..u64::MAX {
+        if let Some(behind) = pattern.strip_prefix('*') {
+            pattern = behind;
+            again = Some((behind, name));
+            continue;
+        }
+        let mut rest = name.chars();
+        let next = rest.next();
+        if next.is_none() && pattern.is_empty() {
+            return true;
+        }
+        if let Some(c) = next
+            && let Some(behind) = behind_one(pattern, c)
+        {
+            pattern = behind;
+            name = rest.as_str();
+            continue;
+        }
+        let Some((behind, from)) = again else {
+            return false;
+        };
+        let mut rest = from.chars();
+        if rest.next().is_none() {
+            return false;
+        }
+        pattern = behind;
+        name = rest.as_str();
+        again = Some((behind, name));
+    }
+    false
 }
 
 // Whether the names of a path match a pattern, in which `**` stands for any number of names.
