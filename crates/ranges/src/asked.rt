@@ -1,7 +1,7 @@
 //! `ranges asked`: what several manifests ask of the same packages.
 
 use crate::apart::first_apart;
-use crate::checking::asked_range;
+use crate::fixing::range_of_specifier;
 use crate::walking::{Manifests, paths, read_file};
 use answers::asking::Problem;
 use answers::object::Object;
@@ -9,21 +9,28 @@ use answers::questions::text_of_version;
 use answers::reading::range;
 use clap::ArgMatches;
 use deno_semver::{PreRelease, VersionReq};
+use package_answers::references::read_reference;
 use semver_req::common::values::Flavour;
 use serde_json::Value;
 use std::alloc::{AllocError, Global};
-use std::collections::BTreeMap;
+use std::collections::{BTreeMap, HashMap};
 use std::io::Write;
 use std::rt::Runtime;
 use terminal::console::{Console, Status, Stop, print_line};
+use terminal::entry::Entry;
+use terminal::hints::behind_protocol;
 use terminal::manifest::entries;
-use terminal::shown::Shown;
+use terminal::npm::{Source, renamed, source_of};
+use terminal::sections::Kind;
+use terminal::shown::{Quoted, Shown};
 
 // Who asks for a range.
 #[derive(Drop)]
 struct Asker {
     file: String,
     section: &'static str,
+    /// What stands in the file.
+    text: String,
     range: String,
 }
 
@@ -70,40 +77,190 @@ impl Package {
     }
 }
 
-// Adds what a manifest asks of registries. Tags, and texts that aren't ranges, are passed over.
-fn add(alloc: Global, packages: &mut Packages, path: &str, text: &str) -> Result<(), Stop> {
-    for entry in entries(alloc, path, text)?.iter() {
-        let Some(asked) = asked_range(entry) else {
-            continue;
-        };
-        let req = match range(alloc, Flavour::Npm, 0, asked) {
-            Ok(req) => req,
-            Err(Problem::Invalid(_)) => continue,
-            Err(Problem::OutOfMemory) => return Err(Stop::OutOfMemory),
-        };
-        if req.tag().is_some() {
-            continue;
+// ---- what entries ask for
+
+// A package that is asked for by a range of a grammar.
+#[derive(Drop)]
+struct Request<'t> {
+    name: String,
+    range: &'t str,
+    flavour: Flavour,
+}
+
+// A manifest, and what stands in it.
+#[derive(Drop)]
+struct Manifest<'p> {
+    path: &'p str,
+    entries: Vec<Entry>,
+}
+
+// The name of the catalog that a key or a reference names; the one without a name has two.
+fn catalog_name(name: &str) -> &str {
+    match name {
+        "" | "default" => "catalog",
+        name => name,
+    }
+}
+
+// The entries of catalogs, by the names of packages.
+type Catalogs<'e> = HashMap<&'e str, Vec<&'e Entry>>;
+
+// Collects the entries of all catalogs.
+fn catalogs<'e>(alloc: Global, manifests: &'e [Manifest<'_>]) -> Result<Catalogs<'e>, AllocError> {
+    let mut catalogs = HashMap::new(alloc);
+    for manifest in manifests {
+        for entry in manifest.entries.iter() {
+            let is_catalog = matches!(
+                entry.section,
+                "catalog" | "catalogs" | "workspaces" | "workspace"
+            );
+            if entry.kind != Kind::Dependency || !is_catalog {
+                continue;
+            }
+            let name = entry.name.as_str();
+            if !catalogs.contains_key(name) {
+                let _ = catalogs.insert(name, Vec::new(alloc))?;
+            }
+            if let Some(entries) = catalogs.get_mut(name) {
+                entries.push(entry)?;
+            }
         }
-        let asker = Asker {
-            file: String::from_str(alloc, path)?,
-            section: entry.section,
-            range: String::from_str(alloc, asked)?,
+    }
+    Ok(catalogs)
+}
+
+// The text of a dependency, or what the catalog has for it that the text refers to.
+fn resolved<'e>(catalogs: &Catalogs<'e>, entry: &'e Entry) -> Option<&'e str> {
+    let text = entry.text.as_str();
+    let Some(catalog) = text.strip_prefix("catalog:") else {
+        return Some(text);
+    };
+    let entries = catalogs.get(entry.name.as_str())?;
+    let found = entries.iter().find(|other| {
+        catalog_name(other.object.as_str()) == catalog_name(catalog)
+    })?;
+    Some(found.text.as_str())
+}
+
+// What a specifier of npm or JSR asks for.
+fn of_specifier(alloc: Global, text: &str) -> Result<Option<Request<'_>>, Stop> {
+    let reference = match read_reference(alloc, text) {
+        Ok(reference) => reference,
+        Err(Problem::Invalid(_)) => return Ok(None),
+        Err(Problem::OutOfMemory) => return Err(Stop::OutOfMemory),
+    };
+    let name = reference.reference.req.name.as_str();
+    let kind = if text.starts_with("jsr:") { "jsr:" } else { "" };
+    let name = format!(in alloc; "{kind}{name}")?;
+    Ok(match range_of_specifier(alloc, text)? {
+        Some((range, _)) => Some(Request {
+            name,
+            range,
+            flavour: Flavour::Specifier,
+        }),
+        // Without a range any version will do.
+        None => Some(Request {
+            name,
+            range: "*",
+            flavour: Flavour::Npm,
+        }),
+    })
+}
+
+// What the text of a dependency with this name asks a registry for, or another package of the workspace.
+fn of_dependency<'t>(
+    alloc: Global,
+    name: &str,
+    text: &'t str,
+) -> Result<Option<Request<'t>>, AllocError> {
+    let range = match source_of(text) {
+        Source::Registry(range) if !text.contains("#semver:") => range,
+        _ => return Ok(None),
+    };
+    let name = renamed(text).unwrap_or(name);
+    let kind = if behind_protocol(text, "jsr:").is_some() {
+        "jsr:"
+    } else {
+        ""
+    };
+    Ok(Some(Request {
+        name: format!(in alloc; "{kind}{name}")?,
+        range,
+        flavour: Flavour::Npm,
+    }))
+}
+
+// What an entry asks for.
+fn request<'e>(
+    alloc: Global,
+    catalogs: &Catalogs<'e>,
+    entry: &'e Entry,
+) -> Result<Option<Request<'e>>, Stop> {
+    match (entry.kind, entry.section) {
+        (Kind::Specifier, _) => of_specifier(alloc, entry.text.as_str()),
+        (
+            Kind::Dependency,
+            "dependencies" | "devDependencies" | "optionalDependencies" | "peerDependencies",
+        ) => match resolved(catalogs, entry) {
+            Some(text) => Ok(of_dependency(alloc, entry.name.as_str(), text)?),
+            None => Ok(None),
+        },
+        (_, _) => Ok(None),
+    }
+}
+
+// Adds what an entry of a file asks for. Tags, and texts that aren't ranges, are passed over.
+fn add(
+    alloc: Global,
+    packages: &mut Packages,
+    path: &str,
+    entry: &Entry,
+    asked: Request<'_>,
+) -> Result<(), Stop> {
+    let req = match range(alloc, asked.flavour, 0, asked.range) {
+        Ok(req) => req,
+        Err(Problem::Invalid(_)) => return Ok(()),
+        Err(Problem::OutOfMemory) => return Err(Stop::OutOfMemory),
+    };
+    if req.tag().is_some() {
+        return Ok(());
+    }
+    let asker = Asker {
+        file: String::from_str(alloc, path)?,
+        section: entry.section,
+        text: String::from_str(alloc, entry.text.as_str())?,
+        range: String::from_str(alloc, asked.range)?,
+    };
+    let name = asked.name.as_str();
+    if !packages.contains_key(name) {
+        let package = Package {
+            askers: Vec::new(alloc),
+            reqs: Vec::new(alloc),
         };
-        let name = entry.name.as_str();
-        if !packages.contains_key(name) {
-            let package = Package {
-                askers: Vec::new(alloc),
-                reqs: Vec::new(alloc),
-            };
-            let _ = packages.insert(String::from_str(alloc, name)?, package)?;
-        }
-        if let Some(package) = packages.get_mut(name) {
-            package.askers.push(asker)?;
-            package.reqs.push(req)?;
-        }
+        let _ = packages.insert(String::from_str(alloc, name)?, package)?;
+    }
+    if let Some(package) = packages.get_mut(name) {
+        package.askers.push(asker)?;
+        package.reqs.push(req)?;
     }
     Ok(())
 }
+
+// The packages that manifests ask for.
+fn packages(alloc: Global, manifests: &[Manifest<'_>]) -> Result<Packages, Stop> {
+    let catalogs = catalogs(alloc, manifests)?;
+    let mut packages = BTreeMap::new(alloc);
+    for manifest in manifests {
+        for entry in manifest.entries.iter() {
+            if let Some(asked) = request(alloc, &catalogs, entry)? {
+                add(alloc, &mut packages, manifest.path, entry, asked)?;
+            }
+        }
+    }
+    Ok(packages)
+}
+
+// ---- what they agree on
 
 // What all who ask for a package accept.
 fn agreed(
@@ -141,7 +298,8 @@ fn json(
         let json = Object::new(alloc)
             .put_text("file", Some(asker.file.as_str()))
             .put_text("range", Some(asker.range.as_str()))
-            .put_text("section", Some(asker.section));
+            .put_text("section", Some(asker.section))
+            .put_text("text", Some(asker.text.as_str()));
         askers.push(json.into_json()?)?;
     }
     let mut apart = Vec::new(alloc);
@@ -177,9 +335,14 @@ fn print<O: Write, E: Write>(
         (None, None) => print_line(out, format_args!("{name}: no version matches all"))?,
     }
     for asker in package.askers.iter() {
-        let (file, range) = (Shown(asker.file.as_str()), Shown(asker.range.as_str()));
+        let (file, text) = (Shown(asker.file.as_str()), Quoted(asker.text.as_str()));
         let section = asker.section;
-        print_line(out, format_args!("  {file}: {section}: \"{range}\""))?;
+        write!(out, "  {file}: {section}: {text}")?;
+        // Of an alias the range stands at the end of the text.
+        if !asker.text.as_str().ends_with(asker.range.as_str()) {
+            write!(out, ", {}", Quoted(asker.range.as_str()))?;
+        }
+        print_line(out, "")?;
     }
     Ok(())
 }
@@ -200,19 +363,21 @@ pub fn report<R: Runtime + AllocGlobal, O: Write, E: Write>(
         paths: files,
         mut status,
     } = found;
-    let mut packages = BTreeMap::new(alloc);
+    let mut manifests = Vec::new(alloc);
     for path in files.iter() {
         let path = path.as_str();
         match read_file(rt, console, path) {
             Ok(text) => {
                 let text = text.as_str();
                 let text = text.strip_prefix('\u{feff}').unwrap_or(text);
-                add(alloc, &mut packages, path, text)?;
+                let entries = entries(alloc, path, text)?;
+                manifests.push(Manifest { path, entries })?;
             }
             Err(Stop::Ended(unread)) => status = status.worse(unread),
             Err(stop) => return Err(stop),
         }
     }
+    let packages = packages(alloc, manifests.as_slice())?;
     for (name, package) in packages.iter() {
         if !package.is_shared() {
             continue;

@@ -374,8 +374,8 @@ fn check_manager<O: Write, E: Write>(
     report.add(console, entry, Finding::new(Cause::Refused, message))
 }
 
-/// The range of an entry that a section asks a registry for.
-pub fn asked_range(entry: &Entry) -> Option<&str> {
+// The range of an entry that a section asks a registry for.
+fn asked_range(entry: &Entry) -> Option<&str> {
     let is_section = matches!(
         entry.section,
         "dependencies" | "devDependencies" | "optionalDependencies" | "peerDependencies"

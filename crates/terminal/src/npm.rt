@@ -101,12 +101,24 @@ fn looks_like_range(text: &str) -> bool {
     is_numbers || text.starts_with(['^', '~', '<', '>', '=', '*'].as_slice())
 }
 
-// What npm makes of what follows `npm:`, a name and a range or a tag.
-fn of_alias(alias: &str) -> Source<'_> {
-    let name_end = match alias.strip_prefix('@') {
+// Where the name ends of a name with a range behind an `@`.
+fn name_end(alias: &str) -> Option<usize> {
+    match alias.strip_prefix('@') {
         Some(scoped) => scoped.find('@').map(|place| place.saturating_add(1)),
         None => alias.find('@'),
-    };
+    }
+}
+
+/// The name of the package that the text of a dependency names before its range; none if the text leaves the name to its key.
+pub fn renamed(text: &str) -> Option<&str> {
+    let other = behind_protocol(text, "npm:").or(behind_protocol(text, "jsr:"));
+    let alias = other.or(behind_protocol(text, "workspace:"))?;
+    alias.get(..name_end(alias)?)
+}
+
+// What npm makes of what follows `npm:`, a name and a range or a tag.
+fn of_alias(alias: &str) -> Source<'_> {
+    let name_end = name_end(alias);
     let (name, range) = match name_end {
         Some(end) => {
             let (name, range) = alias.split_at_checked(end).unwrap_or((alias, ""));
