@@ -6,7 +6,6 @@ use answers::asking::{Answer, Kind, Problem};
 use answers::object::Object;
 use answers::questions::{common_version, order, text_of_version, version_outside};
 use answers::reading::{range, ranges};
-use clap::ArgMatches;
 use deno_semver::Version;
 use semver_req::common::values::Flavour;
 use serde_json::{Value, put};
@@ -14,6 +13,7 @@ use std::alloc::{AllocError, Global};
 use std::cmp::Ordering;
 use std::io::Write;
 use terminal::console::{Console, Status, Stop, print_line};
+use terminal::given::Given;
 use terminal::hints::url_behind;
 use terminal::input::read_ranges;
 use terminal::shown::{Quoted, Shown};
@@ -138,9 +138,10 @@ fn lowest_text<O: Write, E: Write>(
 /// `ranges common RANGE RANGE..` and `ranges min RANGE`: the lowest version that all match, or `none`.
 pub fn common<O: Write, E: Write>(
     console: &mut Console<O, E>,
-    matches: &ArgMatches<'_>,
+    given: Given<'_, '_>,
 ) -> Result<Status, Stop> {
-    let texts = matches.get_strs("RANGE").unwrap_or(&[]);
+    let texts = given.texts(console.alloc, "RANGE")?;
+    let texts = texts.as_slice();
     let options = console.options;
     let answer = common_version(console.alloc, options.flavour, options.pre_release, texts);
     let lowest = lowest_text(console, texts, answer)?;
@@ -150,10 +151,9 @@ pub fn common<O: Write, E: Write>(
 /// `ranges within NEW OLD`: `yes`, or `no` and the lowest version that only NEW allows.
 pub fn within<O: Write, E: Write>(
     console: &mut Console<O, E>,
-    matches: &ArgMatches<'_>,
+    given: Given<'_, '_>,
 ) -> Result<Status, Stop> {
-    let new = matches.get_str("NEW").unwrap_or("");
-    let old = matches.get_str("OLD").unwrap_or("");
+    let (new, old) = (given.text("NEW"), given.text("OLD"));
     let options = console.options;
     let answer = version_outside(
         console.alloc,
@@ -183,10 +183,9 @@ pub fn within<O: Write, E: Write>(
 /// `ranges compare ONE OTHER`: `<`, `=` or `>`, as the first version comes before the other, is equal, or comes behind it.
 pub fn compare<O: Write, E: Write>(
     console: &mut Console<O, E>,
-    matches: &ArgMatches<'_>,
+    given: Given<'_, '_>,
 ) -> Result<Status, Stop> {
-    let one = matches.get_str("ONE").unwrap_or("");
-    let other = matches.get_str("OTHER").unwrap_or("");
+    let (one, other) = (given.text("ONE"), given.text("OTHER"));
     let sign = match order(console.alloc, one, other) {
         Ok(Ordering::Less) => "<",
         Ok(Ordering::Equal) => "=",
@@ -199,9 +198,10 @@ pub fn compare<O: Write, E: Write>(
 /// `ranges overlap RANGE RANGE..`: `yes` if any two ranges match a version in common, or `no` and the first two that don't.
 pub fn overlap<O: Write, E: Write>(
     console: &mut Console<O, E>,
-    matches: &ArgMatches<'_>,
+    given: Given<'_, '_>,
 ) -> Result<Status, Stop> {
-    let texts = matches.get_strs("RANGE").unwrap_or(&[]);
+    let texts = given.texts(console.alloc, "RANGE")?;
+    let texts = texts.as_slice();
     let options = console.options;
     let apart = match ranges(console.alloc, options.flavour, texts) {
         Ok(ranges) => first_apart(console.alloc, ranges.as_slice(), options.pre_release)?,
@@ -258,10 +258,10 @@ fn print_canonical<O: Write, E: Write>(
 pub fn canonical<R: Input, O: Write, E: Write>(
     rt: &R,
     console: &mut Console<O, E>,
-    matches: &ArgMatches<'_>,
+    given: Given<'_, '_>,
 ) -> Result<Status, Stop> {
     let mut status = Status::Answered;
-    for text in matches.get_strs("RANGE").unwrap_or(&[]) {
+    for text in given.matches.get_strs("RANGE").unwrap_or(&[]) {
         if *text != "-" {
             status = status.worse(print_canonical(console, text)?);
             continue;

@@ -3,11 +3,11 @@
 use crate::comparing::{print_json, print_tag, reject};
 use answers::explained::{Explanation, Matches, Meaning, Piece, explain};
 use answers::explained_json::ranges_explained;
-use clap::ArgMatches;
 use deno_semver::{PreRelease, RangeBound, Version, VersionBound, VersionBoundKind, VersionRange};
 use std::fmt;
 use std::io::Write;
 use terminal::console::{BOUNDS, Console, END, ERROR, Status, Stop, Style, print_line};
+use terminal::given::Given;
 use terminal::input::read_ranges;
 use terminal::pointing::print_error;
 use terminal::shown::Shown;
@@ -197,10 +197,10 @@ fn report_text<O: Write, E: Write>(
 pub fn report<R: Input, O: Write, E: Write>(
     rt: &R,
     console: &mut Console<O, E>,
-    matches: &ArgMatches<'_>,
+    given: Given<'_, '_>,
 ) -> Result<Status, Stop> {
     let mut status = Status::Answered;
-    for text in matches.get_strs("RANGE").unwrap_or(&[]) {
+    for text in given.matches.get_strs("RANGE").unwrap_or(&[]) {
         if *text != "-" {
             status = status.worse(report_text(console, text)?);
             continue;

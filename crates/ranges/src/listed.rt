@@ -5,13 +5,13 @@ use answers::object::Object;
 use answers::outdated::standing_of;
 use answers::reading::ranges;
 use answers::sorting::{Order, sorted_places};
-use clap::ArgMatches;
 use deno_semver::resolve::max_satisfying_with;
 use deno_semver::{PreRelease, Version, VersionReq};
 use serde_json::Value;
 use std::alloc::Global;
 use std::io::Write;
 use terminal::console::{Console, Status, Stop};
+use terminal::given::Given;
 use terminal::input::{Take, take_all};
 
 // Prints the text of a version, as a line or as an item of an array.
@@ -103,11 +103,11 @@ impl Take for Listed<'_> {
 // Parses RANGE, and then the ranges of --range; with an invalid one or a tag the command ends.
 fn all_ranges<O: Write, E: Write>(
     console: &mut Console<O, E>,
-    matches: &ArgMatches<'_>,
+    given: Given<'_, '_>,
 ) -> Result<Vec<VersionReq>, Stop> {
     let mut texts = Vec::new(console.alloc);
-    texts.push(matches.get_str("RANGE").unwrap_or(""))?;
-    for text in matches.get_strs("range").unwrap_or(&[]) {
+    texts.push(given.text("RANGE"))?;
+    for text in given.texts(console.alloc, "range")?.iter() {
         texts.push(*text)?;
     }
     let parsed = ranges(console.alloc, console.options.flavour, texts.as_slice());
@@ -124,15 +124,15 @@ fn all_ranges<O: Write, E: Write>(
 pub fn filter<R: Input, O: Write, E: Write>(
     rt: &R,
     console: &mut Console<O, E>,
-    matches: &ArgMatches<'_>,
+    given: Given<'_, '_>,
 ) -> Result<Status, Stop> {
-    let ranges = all_ranges(console, matches)?;
+    let ranges = all_ranges(console, given)?;
     let mut filter = Filtering {
         ranges: ranges.as_slice(),
         pre_release: console.options.pre_release,
         has_match: false,
     };
-    let status = take_all(rt, console, matches.get_strs("VERSION"), &mut filter)?;
+    let status = take_all(rt, console, given.matches.get_strs("VERSION"), &mut filter)?;
     if console.options.json {
         console.end_items()?;
     }
@@ -143,14 +143,14 @@ pub fn filter<R: Input, O: Write, E: Write>(
 pub fn best<R: Input, O: Write, E: Write>(
     rt: &R,
     console: &mut Console<O, E>,
-    matches: &ArgMatches<'_>,
+    given: Given<'_, '_>,
 ) -> Result<Status, Stop> {
-    let ranges = all_ranges(console, matches)?;
+    let ranges = all_ranges(console, given)?;
     let Some((first, others)) = ranges.as_slice().split_first() else {
         return Ok(Status::Usage);
     };
     let mut listed = Listed::new(console.alloc, others, console.options.pre_release);
-    let status = take_all(rt, console, matches.get_strs("VERSION"), &mut listed)?;
+    let status = take_all(rt, console, given.matches.get_strs("VERSION"), &mut listed)?;
     Ok(status.worse(print_answer(console, "version", listed.highest(first))?))
 }
 
@@ -159,16 +159,16 @@ pub fn best<R: Input, O: Write, E: Write>(
 pub fn outdated<R: Input, O: Write, E: Write>(
     rt: &R,
     console: &mut Console<O, E>,
-    matches: &ArgMatches<'_>,
+    given: Given<'_, '_>,
 ) -> Result<Status, Stop> {
-    let ranges = all_ranges(console, matches)?;
+    let ranges = all_ranges(console, given)?;
     // With a tag the command has ended already.
     let range = match ranges.as_slice() {
         [range, ..] if range.tag().is_none() => range,
         _ => return Ok(Status::Usage),
     };
     let mut listed = Listed::new(console.alloc, &[], console.options.pre_release);
-    let status = take_all(rt, console, matches.get_strs("VERSION"), &mut listed)?;
+    let status = take_all(rt, console, given.matches.get_strs("VERSION"), &mut listed)?;
     let standing = standing_of(
         console.options.pre_release,
         range,
@@ -197,10 +197,10 @@ pub fn outdated<R: Input, O: Write, E: Write>(
 pub fn sort<R: Input, O: Write, E: Write>(
     rt: &R,
     console: &mut Console<O, E>,
-    matches: &ArgMatches<'_>,
+    given: Given<'_, '_>,
 ) -> Result<Status, Stop> {
     let mut listed = Listed::new(console.alloc, &[], console.options.pre_release);
-    let status = take_all(rt, console, matches.get_strs("VERSION"), &mut listed)?;
+    let status = take_all(rt, console, given.matches.get_strs("VERSION"), &mut listed)?;
     let order = if console.options.reverse {
         Order::Descending
     } else {
@@ -255,9 +255,9 @@ impl Take for Keys {
 pub fn key<R: Input, O: Write, E: Write>(
     rt: &R,
     console: &mut Console<O, E>,
-    matches: &ArgMatches<'_>,
+    given: Given<'_, '_>,
 ) -> Result<Status, Stop> {
-    let status = take_all(rt, console, matches.get_strs("VERSION"), &mut Keys {})?;
+    let status = take_all(rt, console, given.matches.get_strs("VERSION"), &mut Keys {})?;
     if console.options.json {
         console.end_items()?;
     }

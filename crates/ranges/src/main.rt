@@ -32,9 +32,70 @@ use std::io::{BufWriter, IsTerminal, Write};
 use std::process::ExitCode;
 use std::rt::Runtime;
 use std::{env, io};
-use terminal::args::{Options, program};
+use terminal::args::{Options, grammars, program};
 use terminal::console::{Console, Status, Stop, Style, Terminal};
+use terminal::given::{Given, line_of};
 use terminal::shown::Shown;
+
+// Whether a command over versions reads them from standard input.
+fn reads_versions(matches: &ArgMatches<'_>) -> bool {
+    match matches.get_strs("VERSION") {
+        Some(versions) => versions.contains(&"-"),
+        None => true,
+    }
+}
+
+// What `-` stands for among the arguments of a command that doesn't read many lines for it.
+fn line_for<R: Input, O: Write, E: Write>(
+    rt: &R,
+    console: &mut Console<O, E>,
+    name: &str,
+    matches: &ArgMatches<'_>,
+) -> Result<Option<String>, Stop> {
+    match name {
+        "check" | "asked" | "explain" | "canonical" | "sort" | "key" => Ok(None),
+        "filter" | "best" | "outdated" => {
+            let is_read = reads_versions(matches);
+            line_of(rt, console, matches, &["RANGE", "range"], is_read)
+        }
+        _ => {
+            let names = ["RANGE", "NEW", "OLD", "ONE", "OTHER", "VERSION", "TEXT"];
+            line_of(rt, console, matches, &names, false)
+        }
+    }
+}
+
+// Runs the command of this name.
+fn perform<R: Runtime + AllocGlobal, O: Write, E: Write>(
+    rt: &R,
+    console: &mut Console<O, E>,
+    name: &str,
+    matches: &ArgMatches<'_>,
+) -> Result<Status, Stop> {
+    let line = line_for(rt, console, name, matches)?;
+    let given = Given::new(matches, line.as_deref());
+    match name {
+        "check" => checking::check(rt, console, matches),
+        "asked" => asked::report(rt, console, matches),
+        "filter" => listed::filter(rt, console, given),
+        "best" => listed::best(rt, console, given),
+        "outdated" => listed::outdated(rt, console, given),
+        "sort" => listed::sort(rt, console, given),
+        "key" => listed::key(rt, console, given),
+        "explain" => explaining::report(rt, console, given),
+        "canonical" => comparing::canonical(rt, console, given),
+        "common" | "min" => comparing::common(console, given),
+        "within" => comparing::within(console, given),
+        "overlap" => comparing::overlap(console, given),
+        "compare" => comparing::compare(console, given),
+        "increment" => stepping::increment(console, given),
+        "difference" => stepping::difference(console, given),
+        "scans" => scanned::report(console, given),
+        "package" => packaged::report_package(console, given),
+        "reference" => packaged::report_reference(console, given),
+        _ => Ok(Status::Usage),
+    }
+}
 
 // Runs the command of this name, and flushes its output.
 fn answer<R: Runtime + AllocGlobal, O: Write, E: Write>(
@@ -43,28 +104,7 @@ fn answer<R: Runtime + AllocGlobal, O: Write, E: Write>(
     name: &str,
     matches: &ArgMatches<'_>,
 ) -> Result<Status, Stop> {
-    let outcome = match name {
-        "check" => checking::check(rt, console, matches),
-        "asked" => asked::report(rt, console, matches),
-        "filter" => listed::filter(rt, console, matches),
-        "best" => listed::best(rt, console, matches),
-        "outdated" => listed::outdated(rt, console, matches),
-        "sort" => listed::sort(rt, console, matches),
-        "key" => listed::key(rt, console, matches),
-        "explain" => explaining::report(rt, console, matches),
-        "canonical" => comparing::canonical(rt, console, matches),
-        "common" | "min" => comparing::common(console, matches),
-        "within" => comparing::within(console, matches),
-        "overlap" => comparing::overlap(console, matches),
-        "compare" => comparing::compare(console, matches),
-        "increment" => stepping::increment(console, matches),
-        "difference" => stepping::difference(console, matches),
-        "scans" => scanned::report(console, matches),
-        "package" => packaged::report_package(console, matches),
-        "reference" => packaged::report_reference(console, matches),
-        _ => Ok(Status::Usage),
-    };
-    let status = match outcome {
+    let status = match perform(rt, console, name, matches) {
         Err(Stop::Ended(status)) => status,
         outcome => outcome?,
     };
@@ -80,7 +120,8 @@ fn run<R: Runtime + AllocGlobal, E: Write + Drop>(
     terminal: Terminal,
     arguments: &[String],
 ) -> Result<Status, Stop> {
-    match program(rt.alloc())?.try_get_matches_from(arguments) {
+    let grammars = grammars();
+    match program(rt.alloc(), &grammars)?.try_get_matches_from(arguments) {
         Ok(matches) => {
             let Some((name, matches)) = matches.subcommand() else {
                 return Ok(Status::Usage);

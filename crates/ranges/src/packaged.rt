@@ -1,13 +1,13 @@
 //! `ranges package` and `ranges reference`: the parts of the text of a package.
 
 use crate::comparing::{print_json, reject};
-use clap::ArgMatches;
 use deno_semver::jsr::normalized_export_name;
 use deno_semver::package::{PackageKind, PackageReq};
 use package_answers::packages::{package_json, read_package, scope_and_name};
 use package_answers::references::{Reference, read_reference, reference_json};
 use std::io::Write;
 use terminal::console::{Console, Status, Stop, print_line};
+use terminal::given::Given;
 use terminal::hints::url_behind;
 use terminal::npm::is_package_name;
 use terminal::shown::Shown;
@@ -57,9 +57,9 @@ fn ask<O: Write, E: Write>(
 /// `ranges package TEXT`: the parts of a package with a range.
 pub fn report_package<O: Write, E: Write>(
     console: &mut Console<O, E>,
-    matches: &ArgMatches<'_>,
+    given: Given<'_, '_>,
 ) -> Result<Status, Stop> {
-    let text = matches.get_str("TEXT").unwrap_or("");
+    let text = given.text("TEXT");
     let req = match read_package(console.alloc, console.options.flavour, text) {
         Ok(req) => req,
         Err(problem) => return reject(console, &[text], &problem),
@@ -92,9 +92,9 @@ fn print_reference<O: Write, E: Write>(
 /// `ranges reference TEXT`: the parts of a reference to a package.
 pub fn report_reference<O: Write, E: Write>(
     console: &mut Console<O, E>,
-    matches: &ArgMatches<'_>,
+    given: Given<'_, '_>,
 ) -> Result<Status, Stop> {
-    let text = matches.get_str("TEXT").unwrap_or("");
+    let text = given.text("TEXT");
     let read = match read_reference(console.alloc, text) {
         Ok(read) => read,
         Err(problem) => return reject(console, &[text], &problem),

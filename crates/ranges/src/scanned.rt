@@ -3,12 +3,12 @@
 use crate::comparing::{print_tag, reject};
 use answers::object::Object;
 use answers::reading::range;
-use clap::ArgMatches;
 use semver_base::range::scans::Scan;
 use serde_json::Value;
 use std::alloc::{AllocError, Global};
 use std::io::Write;
 use terminal::console::{Console, Status, Stop, print_line};
+use terminal::given::Given;
 
 // The word for the versions that a scan is about, as `ranges key` prints it.
 fn kind(scan: &Scan) -> &'static str {
@@ -40,10 +40,10 @@ fn condition(alloc: Global, key: &str, pre: &str, scans: &[Scan]) -> Result<Stri
 /// `ranges scans RANGE`: each scan on a line, its kind, `low` and `high` with tabs between them; with `--where` the condition of SQL.
 pub fn report<O: Write, E: Write>(
     console: &mut Console<O, E>,
-    matches: &ArgMatches<'_>,
+    given: Given<'_, '_>,
 ) -> Result<Status, Stop> {
     let (alloc, options) = (console.alloc, console.options);
-    let text = matches.get_str("RANGE").unwrap_or("");
+    let text = given.text("RANGE");
     let range = match range(alloc, options.flavour, 0, text) {
         Ok(range) => range,
         Err(problem) => return reject(console, &[text], &problem),
@@ -52,7 +52,7 @@ pub fn report<O: Write, E: Write>(
         return print_tag(console, tag);
     }
     let scans = range.scans(alloc, options.pre_release)?;
-    if let Some(columns) = matches.get_str("where") {
+    if let Some(columns) = given.matches.get_str("where") {
         let Some((key, pre)) = columns.split_once(',') else {
             let _ = console.complain("--where", "name two columns, such as key,pre");
             return Ok(Status::Usage);

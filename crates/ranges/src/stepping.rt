@@ -2,12 +2,12 @@
 
 use crate::comparing::{print_answer, reject};
 use answers::steps;
-use clap::ArgMatches;
 use node_semver::identifiers::identifiers;
 use node_semver::increment::Base;
 use node_semver::release_type::ReleaseType;
 use std::io::Write;
 use terminal::console::{Console, Status, Stop};
+use terminal::given::Given;
 
 const KINDS: [ReleaseType; 8] = [
     ReleaseType::Major,
@@ -23,14 +23,13 @@ const KINDS: [ReleaseType; 8] = [
 /// `ranges increment KIND VERSION`: the next version of this kind.
 pub fn increment<O: Write, E: Write>(
     console: &mut Console<O, E>,
-    matches: &ArgMatches<'_>,
+    given: Given<'_, '_>,
 ) -> Result<Status, Stop> {
-    let name = matches.get_str("KIND").unwrap_or("");
-    let version = matches.get_str("VERSION").unwrap_or("");
-    let preid = matches.get_str("preid").unwrap_or("");
-    let base = match matches.get_str("base") {
-        Some("1") => Base::One,
-        Some("none") => Base::Nothing,
+    let name = given.text("KIND");
+    let (version, preid) = (given.text("VERSION"), given.text("preid"));
+    let base = match given.text("base") {
+        "1" => Base::One,
+        "none" => Base::Nothing,
         _ => Base::Zero,
     };
     let Some(kind) = KINDS.iter().copied().find(|kind| kind.name() == name) else {
@@ -49,10 +48,9 @@ pub fn increment<O: Write, E: Write>(
 /// `ranges difference ONE OTHER`: the kind of the step between two versions, or `none` if they are equal.
 pub fn difference<O: Write, E: Write>(
     console: &mut Console<O, E>,
-    matches: &ArgMatches<'_>,
+    given: Given<'_, '_>,
 ) -> Result<Status, Stop> {
-    let one = matches.get_str("ONE").unwrap_or("");
-    let other = matches.get_str("OTHER").unwrap_or("");
+    let (one, other) = (given.text("ONE"), given.text("OTHER"));
     match steps::difference(console.alloc, one, other) {
         Ok(Some(kind)) => print_answer(console, "difference", Some(kind.name())),
         Ok(None) => print_answer(console, "difference", None),

@@ -1,5 +1,6 @@
 //! The program's arguments, parsed with the crate `clap`.
 
+use clap::builder::PossibleValue;
 use clap::{Arg, ArgAction, ArgMatches, Command};
 use semver_base::range::PreRelease;
 use semver_req::common::values::Flavour;
@@ -7,8 +8,14 @@ use std::alloc::{AllocError, Global};
 
 const VERSION: &str = "0.1.0";
 
-// The last is an old name of the second, and not listed.
-const GRAMMARS: &[&str] = &["npm", "normalized", "strict", "normal"];
+/// The grammars of ranges, and an old name of one that is still taken.
+pub fn grammars<'a>() -> [PossibleValue<'a>; 3] {
+    [
+        PossibleValue::new("npm"),
+        PossibleValue::new("normalized").aliases(&["normal"]),
+        PossibleValue::new("strict"),
+    ]
+}
 
 const COLORS: &[&str] = &["auto", "always", "never"];
 
@@ -27,7 +34,9 @@ const BASES: &[&str] = &["0", "1", "none"];
 
 const STATUSES: &str = "\
 Exit status: 0 yes, or what was asked for; 1 no or none; 2 a tag; 3 an invalid argument or line; 4 unknown arguments;
-5 out of memory; 6 input can't be read or output can't be written. check has its own (ranges check --help).";
+5 out of memory; 6 input can't be read or output can't be written. check has its own (ranges check --help).
+
+- stands for standard input: for its one line, or for many where a command takes a list.";
 
 /// The options of a command; one that it doesn't have is off.
 #[derive(Clone, Copy)]
@@ -88,7 +97,9 @@ enum Form {
     /// An option without a value, its short name, and the options that it doesn't go with.
     Flag(Option<char>, &'static [&'static str]),
     /// An option whose value is one of these, the first where it isn't given.
-    Choice(Option<char>, &'static str, &'static [&'static str]),
+    Choice(&'static str, &'static [&'static str]),
+    /// The option that names a grammar, and its short name.
+    Grammar(char),
     /// An option with a value, and the options that it doesn't go with.
     Value(&'static str, &'static [&'static str]),
     /// An option with a value, any number of times.
@@ -123,8 +134,8 @@ const QUIET: Argument = Argument {
 
 const GRAMMAR: Argument = Argument {
     name: "grammar",
-    form: Form::Choice(Some('g'), "GRAMMAR", GRAMMARS),
-    help: "The grammar of ranges: npm's, the normalized one, or the strict one of package specifiers [possible values: npm, normalized, strict]",
+    form: Form::Grammar('g'),
+    help: "The grammar of ranges: npm's, the normalized one, or the strict one of package specifiers",
 };
 
 const PRE: Argument = Argument {
@@ -190,7 +201,7 @@ const SARIF: Argument = Argument {
 const FIX: Argument = Argument {
     name: "fix",
     form: Form::Flag(None, &[]),
-    help: "Rewrite ranges to their canonical form",
+    help: "Rewrite ranges to their canonical form, and correct mistakes that have one correction",
 };
 
 const DRY_RUN: Argument = Argument {
@@ -214,7 +225,7 @@ const RANGES: Argument = Argument {
 const TWO_RANGES: Argument = Argument {
     name: "RANGE",
     form: Form::Texts(2),
-    help: "The ranges, two or more",
+    help: "The ranges, two or more; one may be -, for the line of standard input",
 };
 
 const MORE_RANGES: Argument = Argument {
@@ -273,7 +284,7 @@ const PREID: Argument = Argument {
 
 const BASE: Argument = Argument {
     name: "base",
-    form: Form::Choice(None, "NUMBER", BASES),
+    form: Form::Choice("NUMBER", BASES),
     help: "The first number of a pre-release, or none",
 };
 
@@ -356,6 +367,10 @@ Examples:
   ranges check --rule any-zero=off --rule no-match=error packages
   ranges check --strict --canonical packages/*/package.json
   ranges check --fix --dry-run
+
+Rules: any-zero, contained-alternative, disjoint-sections, dropped-alternative, duplicate-key, empty-alternative,
+ignored-comparator, no-match, npm-differs, odd-engine, odd-path, odd-tag, and off if nothing sets them,
+meta-without-range, not-canonical, pre-release-bound.
 
 Exit status: 0 no error; 1 an error, or with --strict a warning, or --dry-run prints a change; 2 unknown arguments;
 3 a file can't be read or written.",
@@ -541,7 +556,11 @@ Examples:
     },
 ];
 
-fn command<'a>(alloc: Global, entry: &Entry) -> Result<Command<'a>, AllocError> {
+fn command<'a>(
+    alloc: Global,
+    entry: &Entry,
+    grammars: &'a [PossibleValue<'a>],
+) -> Result<Command<'a>, AllocError> {
     let mut command = Command::new(alloc, entry.name)
         .about(entry.about)
         .after_help(entry.examples)
@@ -556,11 +575,14 @@ fn command<'a>(alloc: Global, entry: &Entry) -> Result<Command<'a>, AllocError> 
             Form::Flag(short, others) => option(alloc, argument, short)
                 .action(ArgAction::SetTrue)
                 .conflicts_with_all(others)?,
-            Form::Choice(short, value, values) => option(alloc, argument, short)
+            Form::Choice(value, values) => option(alloc, argument, None)
                 .value_name(value)
                 .value_parser(values)
-                .hide_possible_values(short.is_some())
                 .default_value(values.first().copied().unwrap_or("")),
+            Form::Grammar(short) => option(alloc, argument, Some(short))
+                .value_name("GRAMMAR")
+                .value_parser(grammars)
+                .default_value("npm"),
             Form::Value(value, others) => option(alloc, argument, None)
                 .value_name(value)
                 .conflicts_with_all(others)?,
@@ -586,15 +608,19 @@ fn with_commands<'a>(
     alloc: Global,
     mut program: Command<'a>,
     entries: &[Entry],
+    grammars: &'a [PossibleValue<'a>],
 ) -> Result<Command<'a>, AllocError> {
     for entry in entries {
-        program = program.subcommand(command(alloc, entry)?)?;
+        program = program.subcommand(command(alloc, entry, grammars)?)?;
     }
     Ok(program)
 }
 
-/// The program's commands.
-pub fn program<'a>(alloc: Global) -> Result<Command<'a>, AllocError> {
+/// The program's commands, of which some take one of these grammars.
+pub fn program<'a>(
+    alloc: Global,
+    grammars: &'a [PossibleValue<'a>],
+) -> Result<Command<'a>, AllocError> {
     let color = Arg::new(alloc, "color")
         .long("color")
         .value_name("WHEN")
@@ -609,7 +635,7 @@ pub fn program<'a>(alloc: Global) -> Result<Command<'a>, AllocError> {
         .subcommand_required(true)
         .arg_required_else_help(true)
         .arg(color)?;
-    let program = with_commands(alloc, program, ON_FILES)?;
-    let program = with_commands(alloc, program, ON_RANGES)?;
-    with_commands(alloc, program, ON_VERSIONS)
+    let program = with_commands(alloc, program, ON_FILES, grammars)?;
+    let program = with_commands(alloc, program, ON_RANGES, grammars)?;
+    with_commands(alloc, program, ON_VERSIONS, grammars)
 }

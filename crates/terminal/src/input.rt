@@ -5,7 +5,8 @@ use crate::manifest::unescaped;
 use crate::shown::Quoted;
 use semver_base::version::Version;
 use serde_json::Value;
-use std::io::{BufRead, BufReader, Read, Write};
+use std::io;
+use std::io::{BufRead, BufReader, ErrorKind, Read, Write};
 
 // The place of a text that may be a version.
 #[derive(Clone, Copy)]
@@ -159,7 +160,17 @@ pub fn read_ranges<R: Input, O: Write, E: Write>(
     let mut text = String::new(console.alloc);
     match rt.reader().read_to_string(&mut text) {
         Ok(_) => Ok(text),
-        Err(error) => Err(Stop::of(error, Stop::Unread)),
+        Err(error) => Err(unread(console, error)),
+    }
+}
+
+// Why a command stops where standard input can't be read; what isn't text is reported at once.
+pub(crate) fn unread<O: Write, E: Write>(console: &mut Console<O, E>, error: io::Error) -> Stop {
+    match error.kind() {
+        ErrorKind::InvalidData => {
+            Stop::Ended(console.complain("standard input", "not valid UTF-8"))
+        }
+        _ => Stop::of(error, Stop::Unread),
     }
 }
 

@@ -6,6 +6,7 @@ mod commented;
 pub mod console;
 pub mod entry;
 mod escaped;
+pub mod given;
 pub mod hints;
 pub mod input;
 mod json;
