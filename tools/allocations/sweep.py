@@ -148,21 +148,21 @@ def commands():
     yield from (["best", "npm", "1", "1.0.0", "foo"], ["fits", "strict", "", "1.0.0"], ["nothing"], [])
 
 
-MANIFEST = b'{"dependencies": {"a": "^1.2 || ^1", "b": ">=1.2<2", "c": "npm:d@^1.2.3-rc.1", "h": 1}, "imports": {"e": "jsr:@f/g@1"}}'
+MANIFEST = b'{"dependencies": {"a": "^1.2 || ^1", "b": ">=1.2<2", "c": "npm:d@^1.2.3-rc.1", "h": 1, "k": "catalog:b"}, "imports": {"e": "jsr:@f/g@1"}, "engines": {"node": 18}}'
 # One with a finding of each rule, a setting, a version, a package manager and workspaces.
 ODD = (
     b'{"ranges": {"rules": {"not-canonical": "warn", "no-such": "off"}}, "version": "1", "packageManager": "npm", "workspaces": ["p/*"], '
     b'"dependencies": {"a": "^1 or ^2", "b": "1.x.3 || latest", "c": "^0", "a": "1, 2", "d": "~~1", "e": "^7.0.0-0", "f": "1.2/3/4", "g": "npm:a/b"}, '
     b'"peerDependencies": {"a": "^3", "c": "2"}, "peerDependenciesMeta": {"h": {"optional": true}}, "overrides": {"i": {"j": "1 || 1,2"}}}'
 )
-WORKSPACE = b"packages:\n  - 'p/*'\ncatalog:\n  \"a\": '^0'\ncatalogs:\n  b:\n    c: >=1\n"
+WORKSPACE = b"packages:\n  - 'p/*'\ncatalog:\n  \"a\": '^0'\ncatalogs:\n  b:\n    c: >=1\n    k: ^1\n"
 VERSIONS = b"1.2.3-rc\n2.1.0\n1.x\n\"2.\\u0030.0\"\n"
 
 
 def folder_of_manifests(room):
     """A folder with manifests in it and below it."""
     folder = pathlib.Path(room, "manifests")
-    for name, held in {"package.json": MANIFEST, "pnpm-workspace.yaml": WORKSPACE, "p/a/package.json": ODD, "p/b/c/deno.jsonc": b"{}"}.items():
+    for name, held in {"package.json": MANIFEST, "pnpm-workspace.yaml": WORKSPACE, "p/a/package.json": ODD, "p/b/c/deno.jsonc": b'{"imports": {"a": "npm:e@1", "f": "npm:https://g"}}', ".gitignore": b"!x?[a-c]\n/p/**/q\n"}.items():
         (folder / name).parent.mkdir(parents=True, exist_ok=True)
         (folder / name).write_bytes(held)
     return str(folder)
@@ -187,6 +187,7 @@ def ranges_commands(folder):
     yield from ((["check", "--sarif", "-"], ODD), (["check", "--dry-run", folder], b""), (["increment", "release", "1.2.3"], b""))
     yield ["scans", "--where", "key,pre", "^1.2.3-beta || 3"], b""
     yield from ((["filter", "-q", "*"], b'["1.0.0", "2.0.0-a"]'), (["best", "--tags", "*", "--range", "1"], b"refs/tags/v1.0.0\n"))
+    yield from ((["min", "-"], b'"^1.2"'), (["overlap", "-", "^1"], b">=1.2\n"), (["filter", "-", "1.0.0"], b"^1"))
     yield from ((["check", "--github", "-"], MANIFEST), (["--help"], b""), (["frobnicate"], b""), (["check", "none.json"], b""))
     yield from ((["check", "-"], b"{"), (["check", "-"], b"[]"), (["filter", "*"], b"{}"), (["check", "--rule", "none=off"], b""))
 
@@ -217,6 +218,36 @@ def streams(preload):
         asked += 1
         if ran.status not in (0, 1, 2, 3, 4) or (ran.out + ran.err).count(b"\n") != 1:
             wrong.append(f"npmver {str(arguments)[:60]}: status {ran.status}, {(ran.out + ran.err)[:80]!r}")
+    return asked, wrong
+
+
+UNFIXED = {"package.json": b'{"dependencies": {"a": ">=1.2 <2", "b": "1. 2.3"}}', "p/package.json": MANIFEST, "q/deno.json": b'{"imports": {"c": "npm:c@^1.0"}}'}
+
+
+def fixes(preload):
+    """`ranges check --fix` rewrites all files or none, and leaves no other file, whichever allocation fails."""
+    program, wrong, asked = built("ranges"), [], 0
+
+    def fixed(*failing):
+        with tempfile.TemporaryDirectory() as room:
+            for name, held in UNFIXED.items():
+                (pathlib.Path(room, name).parent).mkdir(exist_ok=True)
+                pathlib.Path(room, name).write_bytes(held)
+            ran = Run([program, "check", "--fix", room], b"", *failing)
+            found = [path for path in pathlib.Path(room).rglob("*") if path.is_file()]
+            return ran, {str(path.relative_to(room)): path.read_bytes() for path in found}
+
+    _, better = fixed()
+    for is_all in (False, True):
+        quiet = 0
+        for at in itertools.count(1):
+            ran, held = fixed(preload, at, is_all)
+            asked += 1
+            quiet = quiet + 1 if ran.failures == 0 else 0
+            if held != better and (held != UNFIXED or ran.status != 5):
+                wrong.append(f"ranges check --fix: request {at}, {'and all after it' if is_all else 'alone'}: status {ran.status}, files {held}")
+            if quiet == QUIET:
+                break
     return asked, wrong
 
 
@@ -254,14 +285,15 @@ def main():
         with ThreadPoolExecutor(os.cpu_count()) as pool:
             done = list(pool.map(lambda it: it.go(preload), sweeps))
         asked, broken = streams(preload)
+        fixed, partial = fixes(preload)
     texts, wrong = ample(rows)
-    wrong += broken + [it for sweep in done for it in sweep.wrong]
+    wrong += broken + partial + [it for sweep in done for it in sweep.wrong]
     if not any(b'answered ["no"]' in output for sweep in done if sweep.name.startswith("ample") for output in sweep.outputs):
         wrong.append("ample never answers no")
     for it in wrong[:40]:
         print(it)
     runs, failures = sum(it.runs for it in done), sum(it.failures for it in done)
-    print(f"allocations: {len(rows)} calls and kinds of calls, npmver and ranges, {len(sweeps)} questions, {runs} runs, {failures} failed allocations, {texts} texts with ample memory, {asked} runs with odd streams or arguments, {len(wrong)} wrong answers")
+    print(f"allocations: {len(rows)} calls and kinds of calls, npmver and ranges, {len(sweeps)} questions, {runs} runs, {failures} failed allocations, {texts} texts with ample memory, {asked} runs with odd streams or arguments, {fixed} runs that rewrite files, {len(wrong)} wrong answers")
     return 1 if wrong else 0
 
 

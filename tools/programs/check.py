@@ -5,7 +5,7 @@ which builds them.
 
     tools/programs/check.py [FOLDER [COMMAND..]]
 
-With a folder only the rows of ranges and npmver are run, of the programs in that folder, each by the command, such as qemu-aarch64.
+SARIF_SCHEMA is the path of SARIF's schema, which is then asked, too, with Python's jsonschema. With a folder only the rows of ranges and npmver are run, of the programs in that folder, each by the command, such as qemu-aarch64.
 A row of PROGRAM.jsonl is a JSON object: `arguments`, those after the program's name, standard input where there is one, standard output,
 standard error and the status; absent texts are empty. A byte of arguments, input or files that isn't valid UTF-8 is written as Python's
 surrogateescape has it, `\\udcff` for 255. A row may also have
@@ -51,6 +51,10 @@ LONG = (
     (20_000, "a.", '[["version","1.2.3-@a+@a"],["read","1.2.3-@a+@a"]]'),
     (20_000, "a.", '[["fits","strict","1.2.3-@+@","1.2.3-@+@"],["yes"]]'),
 )
+
+# What SARIF says of each rule, and the rules that are off where nothing sets them.
+RULE_TEXTS = ("shortDescription", "fullDescription", "help")
+RULES_OFF = ["meta-without-range", "not-canonical", "pre-release-bound"]
 
 # The stack that a program has behind its arguments, in bytes; and how much its arguments may take there, and more.
 STACK, ROOMY = 256 * 1024, 64 * 1024 * 1024
@@ -351,9 +355,14 @@ def examples(page):
 def sarif():
     """The SARIF of a file with an error, a warning and a notice has what its schema requires, each result a rule of docs/RANGES.md."""
     rules = re.findall(r"^### ([a-z-]+)$", (TOP / "docs/RANGES.md").read_text(), re.M)
-    given = '{\n"dependencies": {"\u00e4 b": "^1.2.3.4", "c": "^0", "d": "1"}\n}'
+    given = '{\n"dependencies": {"\u00e4 b": "^1.2.3.4", "c": "^0", "d": "1"},\n"engines": {"e": "\\u22651.2.3.4"}\n}'
     row = {"arguments": ["check", "--sarif", "--canonical", "a b.json"], "files": {"a b.json": given}}
     log = json.loads(run(RANGES, row)[0])
+    if schema := os.environ.get("SARIF_SCHEMA"):
+        import jsonschema
+
+        schema = json.loads(pathlib.Path(schema).read_text())
+        yield from (f"SARIF's schema: {error.message}" for error in jsonschema.validators.validator_for(schema)(schema).iter_errors(log))
     (told,) = log["runs"]
     driver, results = told["tool"]["driver"], told["results"]
     places = [it["locations"][0]["physicalLocation"] for it in results]
@@ -363,11 +372,13 @@ def sarif():
         ("columnKind", told["columnKind"], "unicodeCodePoints"),
         ("name", driver["name"], "ranges"),
         ("rules", sorted(it["id"] for it in driver["rules"]), sorted([*rules, "canonical", "invalid"])),
-        ("ruleId", [it["ruleId"] for it in results], ["invalid", "any-zero", "canonical", "canonical"]),
-        ("level", [it["level"] for it in results], ["error", "warning", "note", "note"]),
-        ("text", [bool(it["message"]["text"]) for it in results], [True] * 4),
+        ("texts of rules", [all(it[key]["text"] for key in RULE_TEXTS) for it in driver["rules"]], [True] * len(driver["rules"])),
+        ("rules that are off", [it["id"] for it in driver["rules"] if not it["defaultConfiguration"].get("enabled", True)], RULES_OFF),
+        ("ruleId", [it["ruleId"] for it in results], ["invalid", "any-zero", "canonical", "canonical", "odd-engine"]),
+        ("level", [it["level"] for it in results], ["error", "warning", "note", "note", "warning"]),
+        ("text", [bool(it["message"]["text"]) for it in results], [True] * 5),
         ("uri", {it["artifactLocation"]["uri"] for it in places}, {"a%20b.json"}),
-        ("regions", regions, [(2, 32, 34), (2, 43, 45), (2, 43, 45), (2, 54, 55)]),
+        ("regions", regions, [(2, 32, 34), (2, 43, 45), (2, 43, 45), (2, 54, 55), (3, 19, 32)]),
     ):
         yield None if found == wanted else f"{what} of SARIF: wanted {wanted}, found {found}"
 

@@ -13,7 +13,7 @@ use package_answers::references::read_reference;
 use semver_req::common::values::Flavour;
 use serde_json::Value;
 use std::alloc::{AllocError, Global};
-use std::collections::{BTreeMap, HashMap};
+use std::collections::BTreeMap;
 use std::io::Write;
 use std::rt::Runtime;
 use terminal::console::{Console, Status, Stop, print_line};
@@ -102,43 +102,48 @@ fn catalog_name(name: &str) -> &str {
     }
 }
 
-// The entries of catalogs, by the names of packages.
-type Catalogs<'e> = HashMap<&'e str, Vec<&'e Entry>>;
+// What a catalog has for a package.
+#[derive(Drop)]
+struct Shelved {
+    catalog: String,
+    text: String,
+}
 
-// Collects the entries of all catalogs.
-fn catalogs<'e>(alloc: Global, manifests: &'e [Manifest<'_>]) -> Result<Catalogs<'e>, AllocError> {
-    let mut catalogs = HashMap::new(alloc);
-    for manifest in manifests {
-        for entry in manifest.entries.iter() {
-            let is_catalog = matches!(
-                entry.section,
-                "catalog" | "catalogs" | "workspaces" | "workspace"
-            );
-            if entry.kind != Kind::Dependency || !is_catalog {
-                continue;
-            }
-            let name = entry.name.as_str();
-            if !catalogs.contains_key(name) {
-                let _ = catalogs.insert(name, Vec::new(alloc))?;
-            }
-            if let Some(entries) = catalogs.get_mut(name) {
-                entries.push(entry)?;
-            }
-        }
+// What all catalogs have, by the names of packages.
+type Catalogs = BTreeMap<String, Vec<Shelved>>;
+
+// Adds an entry, if it is of a catalog.
+fn shelve(alloc: Global, catalogs: &mut Catalogs, entry: &Entry) -> Result<(), AllocError> {
+    let is_catalog = matches!(
+        entry.section,
+        "catalog" | "catalogs" | "workspaces" | "workspace"
+    );
+    if entry.kind != Kind::Dependency || !is_catalog {
+        return Ok(());
     }
-    Ok(catalogs)
+    let shelved = Shelved {
+        catalog: String::from_str(alloc, catalog_name(entry.object.as_str()))?,
+        text: String::from_str(alloc, entry.text.as_str())?,
+    };
+    let name = entry.name.as_str();
+    if !catalogs.contains_key(name) {
+        let _ = catalogs.insert(String::from_str(alloc, name)?, Vec::new(alloc))?;
+    }
+    if let Some(all) = catalogs.get_mut(name) {
+        all.push(shelved)?;
+    }
+    Ok(())
 }
 
 // The text of a dependency, or what the catalog has for it that the text refers to.
-fn resolved<'e>(catalogs: &Catalogs<'e>, entry: &'e Entry) -> Option<&'e str> {
+fn resolved<'e>(catalogs: &'e Catalogs, entry: &'e Entry) -> Option<&'e str> {
     let text = entry.text.as_str();
     let Some(catalog) = text.strip_prefix("catalog:") else {
         return Some(text);
     };
-    let entries = catalogs.get(entry.name.as_str())?;
-    let found = entries.iter().find(|other| {
-        catalog_name(other.object.as_str()) == catalog_name(catalog)
-    })?;
+    let catalog = catalog_name(catalog);
+    let all = catalogs.get(entry.name.as_str())?;
+    let found = all.iter().find(|it| it.catalog.as_str() == catalog)?;
     Some(found.text.as_str())
 }
 
@@ -191,9 +196,9 @@ fn of_dependency<'t>(
 }
 
 // What an entry asks for.
-fn request<'e>(
+fn asked_by<'e>(
     alloc: Global,
-    catalogs: &Catalogs<'e>,
+    catalogs: &'e Catalogs,
     entry: &'e Entry,
 ) -> Result<Option<Request<'e>>, Stop> {
     match (entry.kind, entry.section) {
@@ -247,12 +252,17 @@ fn add(
 }
 
 // The packages that manifests ask for.
-fn packages(alloc: Global, manifests: &[Manifest<'_>]) -> Result<Packages, Stop> {
-    let catalogs = catalogs(alloc, manifests)?;
+fn all_packages(alloc: Global, manifests: &[Manifest<'_>]) -> Result<Packages, Stop> {
+    let mut catalogs = BTreeMap::new(alloc);
+    for manifest in manifests {
+        for entry in manifest.entries.iter() {
+            shelve(alloc, &mut catalogs, entry)?;
+        }
+    }
     let mut packages = BTreeMap::new(alloc);
     for manifest in manifests {
         for entry in manifest.entries.iter() {
-            if let Some(asked) = request(alloc, &catalogs, entry)? {
+            if let Some(asked) = asked_by(alloc, &catalogs, entry)? {
                 add(alloc, &mut packages, manifest.path, entry, asked)?;
             }
         }
@@ -377,7 +387,7 @@ pub fn report<R: Runtime + AllocGlobal, O: Write, E: Write>(
             Err(stop) => return Err(stop),
         }
     }
-    let packages = packages(alloc, manifests.as_slice())?;
+    let packages = all_packages(alloc, manifests.as_slice())?;
     for (name, package) in packages.iter() {
         if !package.is_shared() {
             continue;

@@ -388,7 +388,7 @@ struct Target<'r> {
     data: Metadata,
 }
 
-fn target<'r, R: Files + AllocGlobal>(rt: &R, file: &'r Rewritten) -> io::Result<Target<'r>> {
+fn target_of<'r, R: Files + AllocGlobal>(rt: &R, file: &'r Rewritten) -> io::Result<Target<'r>> {
     let real = fs::canonicalize(rt, file.path.as_str())?;
     let data = fs::metadata(rt, real.as_str())?;
     let beside = format!(in rt.alloc(); "{}.ranges-new", real.as_str())?;
@@ -457,14 +457,14 @@ fn complain<O: Write, E: Write>(
 }
 
 // Where to write each file, once if it is given under several names.
-fn targets<'r, R: Files + AllocGlobal, O: Write, E: Write>(
+fn all_targets<'r, R: Files + AllocGlobal, O: Write, E: Write>(
     rt: &R,
     console: &mut Console<O, E>,
     all: &'r [Rewritten],
 ) -> Result<Vec<Target<'r>>, Stop> {
     let mut targets: Vec<Target<'r>> = Vec::new(console.alloc);
     for file in all {
-        let target = match target(rt, file) {
+        let target = match target_of(rt, file) {
             Ok(target) => target,
             Err(error) => {
                 return Err(Stop::Ended(complain(console, file.path.as_str(), &error)?));
@@ -486,7 +486,7 @@ fn write_all<R: Files + AllocGlobal, O: Write, E: Write>(
     console: &mut Console<O, E>,
     all: &[Rewritten],
 ) -> Result<Status, Stop> {
-    let targets = targets(rt, console, all)?;
+    let targets = all_targets(rt, console, all)?;
     for (place, target) in targets.iter().enumerate() {
         if let Err(error) = target.write(rt, target.file.new.as_str()) {
             for written in targets.iter().take(place) {

@@ -354,85 +354,81 @@ fn manifests_in<R: Runtime + AllocGlobal, O: Write, E: Write>(
 
 // ---- workspaces
 
-// Whether a set such as `a-z_]` or `!a]`, in which `]` stands behind the last, has a character, and what follows it; none if it doesn't end.
-fn in_set(set: &str, c: char) -> Option<(bool, &str)> {
-    let members = set.strip_prefix(['!', '^'].as_slice()).unwrap_or(set);
+// Whether a set such as `a-z_]` or `!a]`, in which `]` stands behind the last, has a byte, and what follows it; none if it doesn't end.
+fn in_set(set: &[u8], byte: u8) -> Option<(bool, &[u8])> {
+    let (is_without, members) = match set {
+        [b'!' | b'^', members @ ..] => (true, members),
+        members => (false, members),
+    };
     // At the front `]` is a member.
-    let end = members.get(1..)?.find(']')?.saturating_add(1);
-    let mut rest = members.get(..end)?.chars();
+    let end = members
+        .iter()
+        .skip(1)
+        .position(|byte| *byte == b']')?
+        .saturating_add(1);
+    let (mut left, behind) = (members.get(..end)?, members.get(end.saturating_add(1)..)?);
     let mut has = false;
     for _ in 0..end {
-        let Some(first) = rest.next() else {
-            break;
+        let (first, last, rest) = match left {
+            [first, b'-', last, rest @ ..] => (*first, *last, rest),
+            [only, rest @ ..] => (*only, *only, rest),
+            [] => break,
         };
-        let last = match rest
-            .as_str()
-            .strip_prefix('-')
-            .and_then(|it| it.chars().next())
-        {
-            Some(last) => {
-                let _ = rest.next();
-                let _ = rest.next();
-                last
-            }
-            None => first,
-        };
-        has |= first <= c && c <= last;
+        has |= first <= byte && byte <= last;
+        left = rest;
     }
-    let behind = members.get(end.saturating_add(1)..)?;
-    Some((has != (members.len() < set.len()), behind))
+    Some((has != is_without, behind))
 }
 
-// What follows in a pattern, if what it begins with takes this character: itself, `?`, a set in brackets, or a character behind `\`.
-fn behind_one(pattern: &str, c: char) -> Option<&str> {
-    if let Some(rest) = pattern.strip_prefix('?') {
-        return Some(rest);
-    }
-    if let Some(set) = pattern.strip_prefix('[') {
-        return match in_set(set, c) {
-            Some((true, rest)) => Some(rest),
-            _ => None,
-        };
-    }
-    pattern
-        .strip_prefix('\\')
-        .unwrap_or(pattern)
-        .strip_prefix(c)
+// What follows in a pattern, if what it begins with takes this byte: itself, `?`, a set in brackets, or a byte behind `\`.
+fn behind_one(pattern: &[u8], byte: u8) -> Option<&[u8]> {
+    let (own, rest) = match pattern {
+        [b'?', rest @ ..] => return Some(rest),
+        [b'[', set @ ..] => {
+            return match in_set(set, byte) {
+                Some((true, rest)) => Some(rest),
+                _ => None,
+            };
+        }
+        [b'\\', own, rest @ ..] => (*own, rest),
+        [own, rest @ ..] => (*own, rest),
+        [] => return None,
+    };
+    if own == byte { Some(rest) } else { None }
 }
 
-// Whether a name matches a pattern, in which `*` stands for any text.
+// Whether a name matches a pattern, in which `*` stands for any text. As in git, bytes are compared.
 fn matches_name(pattern: &str, name: &str) -> bool {
-    let (mut pattern, mut name) = (pattern, name);
-    // Where the pattern goes on behind the last `*`, and the text from which on that could take one more character.
+    let (mut pattern, mut name) = (pattern.as_bytes(), name.as_bytes());
+    // Where the pattern goes on behind the last `*`, and what it could have taken of the name.
     let mut again = None;
     for _ in 0..u64::MAX {
-        if let Some(behind) = pattern.strip_prefix('*') {
+        if let [b'*', behind @ ..] = pattern {
             pattern = behind;
             again = Some((behind, name));
             continue;
         }
-        let mut rest = name.chars();
-        let next = rest.next();
-        if next.is_none() && pattern.is_empty() {
-            return true;
-        }
-        if let Some(c) = next
-            && let Some(behind) = behind_one(pattern, c)
-        {
+        let taken = match name {
+            [] if pattern.is_empty() => return true,
+            [] => None,
+            [byte, rest @ ..] => match behind_one(pattern, *byte) {
+                Some(behind) => Some((behind, rest)),
+                None => None,
+            },
+        };
+        if let Some((behind, rest)) = taken {
             pattern = behind;
-            name = rest.as_str();
+            name = rest;
             continue;
         }
-        let Some((behind, from)) = again else {
-            return false;
-        };
-        let mut rest = from.chars();
-        if rest.next().is_none() {
-            return false;
+        match again {
+            Some((behind, [_, rest @ ..])) => {
+                pattern = behind;
+                name = rest;
+                again = Some((behind, rest));
+            }
+            _ => return false,
         }
-        pattern = behind;
-        name = rest.as_str();
-        again = Some((behind, name));
     }
     false
 }

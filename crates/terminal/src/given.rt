@@ -100,7 +100,11 @@ impl<'g, 'm> Given<'g, 'm> {
 
     /// The text of the argument with this name; an empty one if it isn't there.
     pub fn text(&self, name: &str) -> &'g str {
-        self.meant(self.matches.get_str(name).unwrap_or(""))
+        match (self.matches.get_str(name), self.line) {
+            (Some(HYPHEN), Some(line)) => line,
+            (Some(text), _) => text,
+            (None, _) => "",
+        }
     }
 
     /// All texts of the argument with this name.

@@ -86,13 +86,13 @@ impl Reader {
         };
         let name = if key == ITEM { "" } else { key };
         let object = match self.path.last() {
-            Some(key) => key.as_str(),
-            None => "",
+            Some(object) => String::from_str(self.alloc, object.as_str())?,
+            None => String::new(self.alloc),
         };
         let start = start.saturating_add(before);
         let entry = Entry {
             section,
-            object: String::from_str(self.alloc, object)?,
+            object,
             name: String::from_str(self.alloc, name)?,
             text: String::from_str(self.alloc, inner)?,
             start,
