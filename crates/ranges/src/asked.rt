@@ -81,16 +81,16 @@ impl Package {
 
 // A package that is asked for by a range of a grammar.
 #[derive(Drop)]
-struct Request<'t> {
+struct Request {
     name: String,
-    range: &'t str,
+    range: String,
     flavour: Flavour,
 }
 
 // A manifest, and what stands in it.
 #[derive(Drop)]
-struct Manifest<'p> {
-    path: &'p str,
+struct Manifest {
+    path: String,
     entries: Vec<Entry>,
 }
 
@@ -148,7 +148,7 @@ fn resolved<'e>(catalogs: &'e Catalogs, entry: &'e Entry) -> Option<&'e str> {
 }
 
 // What a specifier of npm or JSR asks for.
-fn of_specifier(alloc: Global, text: &str) -> Result<Option<Request<'_>>, Stop> {
+fn of_specifier(alloc: Global, text: &str) -> Result<Option<Request>, Stop> {
     let reference = match read_reference(alloc, text) {
         Ok(reference) => reference,
         Err(Problem::Invalid(_)) => return Ok(None),
@@ -157,27 +157,20 @@ fn of_specifier(alloc: Global, text: &str) -> Result<Option<Request<'_>>, Stop> 
     let name = reference.reference.req.name.as_str();
     let kind = if text.starts_with("jsr:") { "jsr:" } else { "" };
     let name = format!(in alloc; "{kind}{name}")?;
-    Ok(match range_of_specifier(alloc, text)? {
-        Some((range, _)) => Some(Request {
-            name,
-            range,
-            flavour: Flavour::Specifier,
-        }),
-        // Without a range any version will do.
-        None => Some(Request {
-            name,
-            range: "*",
-            flavour: Flavour::Npm,
-        }),
-    })
+    // Without a range any version will do.
+    let (range, flavour) = match range_of_specifier(alloc, text)? {
+        Some((range, _)) => (range, Flavour::Specifier),
+        None => ("*", Flavour::Npm),
+    };
+    Ok(Some(Request {
+        name,
+        range: String::from_str(alloc, range)?,
+        flavour,
+    }))
 }
 
 // What the text of a dependency with this name asks a registry for, or another package of the workspace.
-fn of_dependency<'t>(
-    alloc: Global,
-    name: &str,
-    text: &'t str,
-) -> Result<Option<Request<'t>>, AllocError> {
+fn of_dependency(alloc: Global, name: &str, text: &str) -> Result<Option<Request>, AllocError> {
     let range = match source_of(text) {
         Source::Registry(range) if !text.contains("#semver:") => range,
         _ => return Ok(None),
@@ -190,17 +183,13 @@ fn of_dependency<'t>(
     };
     Ok(Some(Request {
         name: format!(in alloc; "{kind}{name}")?,
-        range,
+        range: String::from_str(alloc, range)?,
         flavour: Flavour::Npm,
     }))
 }
 
 // What an entry asks for.
-fn asked_by<'e>(
-    alloc: Global,
-    catalogs: &'e Catalogs,
-    entry: &'e Entry,
-) -> Result<Option<Request<'e>>, Stop> {
+fn asked_by(alloc: Global, catalogs: &Catalogs, entry: &Entry) -> Result<Option<Request>, Stop> {
     match (entry.kind, entry.section) {
         (Kind::Specifier, _) => of_specifier(alloc, entry.text.as_str()),
         (
@@ -220,9 +209,14 @@ fn add(
     packages: &mut Packages,
     path: &str,
     entry: &Entry,
-    asked: Request<'_>,
+    asked: Request,
 ) -> Result<(), Stop> {
-    let req = match range(alloc, asked.flavour, 0, asked.range) {
+    let Request {
+        name,
+        range: text,
+        flavour,
+    } = asked;
+    let req = match range(alloc, flavour, 0, text.as_str()) {
         Ok(req) => req,
         Err(Problem::Invalid(_)) => return Ok(()),
         Err(Problem::OutOfMemory) => return Err(Stop::OutOfMemory),
@@ -234,9 +228,9 @@ fn add(
         file: String::from_str(alloc, path)?,
         section: entry.section,
         text: String::from_str(alloc, entry.text.as_str())?,
-        range: String::from_str(alloc, asked.range)?,
+        range: text,
     };
-    let name = asked.name.as_str();
+    let name = name.as_str();
     if !packages.contains_key(name) {
         let package = Package {
             askers: Vec::new(alloc),
@@ -252,7 +246,7 @@ fn add(
 }
 
 // The packages that manifests ask for.
-fn all_packages(alloc: Global, manifests: &[Manifest<'_>]) -> Result<Packages, Stop> {
+fn all_packages(alloc: Global, manifests: &[Manifest]) -> Result<Packages, Stop> {
     let mut catalogs = BTreeMap::new(alloc);
     for manifest in manifests {
         for entry in manifest.entries.iter() {
@@ -263,7 +257,7 @@ fn all_packages(alloc: Global, manifests: &[Manifest<'_>]) -> Result<Packages, S
     for manifest in manifests {
         for entry in manifest.entries.iter() {
             if let Some(asked) = asked_by(alloc, &catalogs, entry)? {
-                add(alloc, &mut packages, manifest.path, entry, asked)?;
+                add(alloc, &mut packages, manifest.path.as_str(), entry, asked)?;
             }
         }
     }
@@ -381,6 +375,7 @@ pub fn report<R: Runtime + AllocGlobal, O: Write, E: Write>(
                 let text = text.as_str();
                 let text = text.strip_prefix('\u{feff}').unwrap_or(text);
                 let entries = entries(alloc, path, text)?;
+                let path = String::from_str(alloc, path)?;
                 manifests.push(Manifest { path, entries })?;
             }
             Err(Stop::Ended(unread)) => status = status.worse(unread),

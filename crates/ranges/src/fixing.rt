@@ -381,26 +381,27 @@ impl Drop for Rewritten {
 
 // Where a file is written: beside the old one, and then under its name.
 #[derive(Drop)]
-struct Target<'r> {
-    file: &'r Rewritten,
+struct Spot {
     real: PathBuf,
     beside: String,
     data: Metadata,
 }
 
-fn target_of<'r, R: Files + AllocGlobal>(rt: &R, file: &'r Rewritten) -> io::Result<Target<'r>> {
-    let real = fs::canonicalize(rt, file.path.as_str())?;
-    let data = fs::metadata(rt, real.as_str())?;
-    let beside = format!(in rt.alloc(); "{}.ranges-new", real.as_str())?;
-    Ok(Target {
-        file,
-        real,
-        beside,
-        data,
-    })
+// A file that is to be written.
+#[derive(Drop)]
+struct Target {
+    file: Rewritten,
+    spot: Spot,
 }
 
-impl Target<'_> {
+fn spot_of<R: Files + AllocGlobal>(rt: &R, path: &str) -> io::Result<Spot> {
+    let real = fs::canonicalize(rt, path)?;
+    let data = fs::metadata(rt, real.as_str())?;
+    let beside = format!(in rt.alloc(); "{}.ranges-new", real.as_str())?;
+    Ok(Spot { real, beside, data })
+}
+
+impl Spot {
     // Writes a text beside the file. Only a whole one stays there.
     fn write<R: Files>(&self, rt: &R, text: &str) -> io::Result<()> {
         let mut file = fs::File::create_new(rt, self.beside.as_str())?;
@@ -425,8 +426,8 @@ impl Target<'_> {
     }
 
     // Writes what the file held before.
-    fn restore<R: Files>(&self, rt: &R) -> io::Result<()> {
-        self.write(rt, self.file.old.as_str())?;
+    fn restore<R: Files>(&self, rt: &R, old: &str) -> io::Result<()> {
+        self.write(rt, old)?;
         let renamed = self.rename(rt);
         if renamed.is_err() {
             self.remove(rt);
@@ -457,24 +458,23 @@ fn complain<O: Write, E: Write>(
 }
 
 // Where to write each file, once if it is given under several names.
-fn all_targets<'r, R: Files + AllocGlobal, O: Write, E: Write>(
+fn all_targets<R: Files + AllocGlobal, O: Write, E: Write>(
     rt: &R,
     console: &mut Console<O, E>,
-    all: &'r [Rewritten],
-) -> Result<Vec<Target<'r>>, Stop> {
-    let mut targets: Vec<Target<'r>> = Vec::new(console.alloc);
+    all: Vec<Rewritten>,
+) -> Result<Vec<Target>, Stop> {
+    let mut targets: Vec<Target> = Vec::new(console.alloc);
     for file in all {
-        let target = match target_of(rt, file) {
-            Ok(target) => target,
+        let spot = match spot_of(rt, file.path.as_str()) {
+            Ok(spot) => spot,
             Err(error) => {
                 return Err(Stop::Ended(complain(console, file.path.as_str(), &error)?));
             }
         };
-        let is_new = targets
-            .iter()
-            .all(|it| it.real.as_str() != target.real.as_str());
+        let real = spot.real.as_str();
+        let is_new = targets.iter().all(|it| it.spot.real.as_str() != real);
         if is_new {
-            targets.push(target)?;
+            targets.push(Target { file, spot })?;
         }
     }
     Ok(targets)
@@ -484,21 +484,21 @@ fn all_targets<'r, R: Files + AllocGlobal, O: Write, E: Write>(
 fn write_all<R: Files + AllocGlobal, O: Write, E: Write>(
     rt: &R,
     console: &mut Console<O, E>,
-    all: &[Rewritten],
+    all: Vec<Rewritten>,
 ) -> Result<Status, Stop> {
     let targets = all_targets(rt, console, all)?;
-    for (place, target) in targets.iter().enumerate() {
-        if let Err(error) = target.write(rt, target.file.new.as_str()) {
+    for (place, Target { file, spot }) in targets.iter().enumerate() {
+        if let Err(error) = spot.write(rt, file.new.as_str()) {
             for written in targets.iter().take(place) {
-                written.remove(rt);
+                written.spot.remove(rt);
             }
-            return complain(console, target.file.path.as_str(), &error);
+            return complain(console, file.path.as_str(), &error);
         }
     }
     for (place, target) in targets.iter().enumerate() {
-        if let Err(error) = target.rename(rt) {
+        if let Err(error) = target.spot.rename(rt) {
             for written in targets.iter().skip(place) {
-                written.remove(rt);
+                written.spot.remove(rt);
             }
             return undo(rt, console, targets.as_slice(), place, &error);
         }
@@ -510,17 +510,17 @@ fn write_all<R: Files + AllocGlobal, O: Write, E: Write>(
 fn undo<R: Files, O: Write, E: Write>(
     rt: &R,
     console: &mut Console<O, E>,
-    targets: &[Target<'_>],
+    targets: &[Target],
     place: usize,
     error: &io::Error,
 ) -> Result<Status, Stop> {
     let mut status = Status::Answered;
-    for (at, target) in targets.iter().enumerate() {
-        let path = target.file.path.as_str();
+    for (at, Target { file, spot }) in targets.iter().enumerate() {
+        let path = file.path.as_str();
         if at == place {
             return Ok(status.worse(complain(console, path, error)?));
         }
-        if target.restore(rt).is_err() {
+        if spot.restore(rt, file.old.as_str()).is_err() {
             let message = "rewritten, and can't be restored";
             status = status.worse(console.complain(Shown(path), message));
         }
@@ -552,7 +552,7 @@ pub fn fix<R: Input + Files + AllocGlobal, O: Write, E: Write>(
         }
     }
     if !is_dry {
-        return write_all(rt, console, all.as_slice());
+        return write_all(rt, console, all);
     }
     for file in all.iter() {
         let (path, old, new) = (file.path.as_str(), file.old.as_str(), file.new.as_str());

@@ -73,7 +73,7 @@ fn perform<R: Runtime + AllocGlobal, O: Write, E: Write>(
     matches: &ArgMatches<'_>,
 ) -> Result<Status, Stop> {
     let line = line_for(rt, console, name, matches)?;
-    let given = Given::new(matches, line.as_deref());
+    let given = Given::new(&*matches, line.as_deref());
     match name {
         "check" => checking::check(rt, console, matches),
         "asked" => asked::report(rt, console, matches),
