@@ -27,7 +27,7 @@ DESCRIPTION = (
     "A pre-release matches by npm's rule: if a bound of the range is a pre-release of its three numbers. With --pre each one between the bounds "
     "matches.",
     "The canonical form of a range is the shortest usual text that means the same.",
-    "Where a file is named, - is standard input. Behind -- each argument is one, also where it begins with a hyphen.",
+    "- is standard input: a file, its one line, or many lines where a command takes a list. Behind -- each argument is one, also where it begins with a hyphen.",
 )
 ENVIRONMENT = (
     ("NO_COLOR", "If it is set and not empty, nothing is printed in colour, unless --color=always is given."),

@@ -5,7 +5,7 @@ complete -c ranges -n '__fish_seen_subcommand_from check' -s j -l json -d 'Print
 complete -c ranges -n '__fish_seen_subcommand_from check' -l github -d 'Print GitHub Actions annotations'
 complete -c ranges -n '__fish_seen_subcommand_from check' -l sarif -d 'Print SARIF 2.1.0'
 complete -c ranges -n '__fish_seen_subcommand_from check' -s c -l canonical -d 'Print every range with its canonical form'
-complete -c ranges -n '__fish_seen_subcommand_from check' -l fix -d 'Rewrite ranges to their canonical form'
+complete -c ranges -n '__fish_seen_subcommand_from check' -l fix -d 'Rewrite ranges to their canonical form, and correct mistakes that have one correction'
 complete -c ranges -n '__fish_seen_subcommand_from check' -l dry-run -d 'Print what --fix changes, as a unified diff'
 complete -c ranges -n '__fish_seen_subcommand_from check' -l rule -x -a '' -d 'Set a rule\'s level: off, warn or error'
 complete -c ranges -n '__fish_seen_subcommand_from check' -l strict -d 'Exit with 1 on a warning'

@@ -374,7 +374,8 @@ fn in_set(set: &[u8], byte: u8) -> Option<(bool, &[u8])> {
             [only, rest @ ..] => (*only, *only, rest),
             [] => break,
         };
-        has |= first <= byte && byte <= last;
+        // Of `b-a`, too, git takes the first.
+        has |= first == byte || first <= byte && byte <= last;
         left = rest;
     }
     Some((has != is_without, behind))
