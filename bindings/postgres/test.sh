@@ -30,6 +30,15 @@ exports_no_calls() {
     [ -z "$exported" ] || fail "the extension exports $exported"
 }
 
+# A build in another folder installs the same files, as packages of distributions are built.
+installs_from_elsewhere() {
+    mkdir "$root/elsewhere"
+    run make -s -C "$root/elsewhere" -f "$root/extension/Makefile" DENO_SEMVER="$library" DESTDIR="$root/elsewhere/installed" install
+    for file in "$root/extension"/deno_semver*.control "$root/extension"/deno_semver--*.sql; do
+        cmp "$file" "$root/elsewhere/installed$(pg_config --sharedir)/extension/${file##*/}"
+    done
+}
+
 # A database in SQL_ASCII has any bytes.
 bytes() {
     query contrib_regression 'create extension deno_semver'
@@ -198,6 +207,7 @@ trap stop EXIT
 trap 'exit 1' INT TERM
 install
 exports_no_calls
+installs_from_elsewhere
 initialize
 start -c autovacuum=off
 regress
