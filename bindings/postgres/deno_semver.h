@@ -23,6 +23,9 @@
 /* What the files share isn't exported, so the compiler may inline it. */
 #pragma GCC visibility push(hidden)
 
+/* The longest version that semver_try takes, as node-semver. */
+#define SV_MOST_TRIED 256
+
 /* A string in UTF-8. */
 typedef struct
 {

@@ -24,13 +24,14 @@ PG_MODULE_MAGIC;
 /* How many bytes of a string an error shows before its place, and behind it. */
 #define AROUND 40
 
-static int	max_length = 256;
+static int	max_length = SV_MOST_TRIED;
 
 PGDLLEXPORT void _PG_init(void);
 
 /*
  * The input of versions is immutable, and raises an error above the limit.  So
- * the limit is that of the server, and no session can have another one.
+ * the limit is that of the server, and no session can have another one.  What
+ * semver_try makes is input where a dump is restored, so it may not be less.
  */
 void
 _PG_init(void)
@@ -42,7 +43,7 @@ _PG_init(void)
 							"Sets how many bytes a version may have.",
 							NULL,
 							&max_length,
-							256, 5, MOST_OF_RANGE,
+							SV_MOST_TRIED, SV_MOST_TRIED, MOST_OF_RANGE,
 							PGC_SIGHUP,
 							0,
 							NULL, NULL, NULL);

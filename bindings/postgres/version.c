@@ -10,9 +10,6 @@
 #include "utils/builtins.h"
 #include "utils/sortsupport.h"
 
-/* The longest version that semver_try takes, as node-semver. */
-#define MOST_TRIED 256
-
 /* What is sent: the format, and the version as displayed, or the key of a bound. */
 #define FORMAT 1
 
@@ -248,7 +245,7 @@ deno_semver_try(PG_FUNCTION_ARGS)
 	struct varlena *made = NULL;
 	int32_t		code;
 
-	if (version.len > MOST_TRIED)
+	if (version.len > SV_MOST_TRIED)
 		PG_RETURN_NULL();
 	code = make_version(version, &made);
 	if (code == SEMVER_INVALID_VERSION || code == SEMVER_NOT_UTF8)

@@ -7,6 +7,8 @@ SELECT '1.2.3.4'::semver;
 SELECT '18446744073709551616.0.0'::semver;
 SELECT ('1.0.0-' || repeat('a', 300))::semver;
 SET deno_semver.max_length = 400;
+-- no server takes less than semver_try
+SELECT min_val, boot_val, max_val FROM pg_settings WHERE name = 'deno_semver.max_length';
 SELECT semver_try('1.2'), semver_try('1.2.3'), semver_try(NULL), semver_try(repeat('1', 1000));
 SELECT semver_try('1.0.0-' || repeat('a', 250)) IS NULL AS of_256, semver_try('1.0.0-' || repeat('a', 251)) IS NULL AS of_257;
 -- ranges
