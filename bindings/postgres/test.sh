@@ -30,11 +30,14 @@ exports_no_calls() {
     [ -z "$exported" ] || fail "the extension exports $exported"
 }
 
-# A build in another folder installs the same files, as packages of distributions are built.
+# A build in another folder installs the same files, as packages of distributions are built, and is built anew over a newer library.
 installs_from_elsewhere() {
     mkdir "$root/elsewhere"
-    run make -s -C "$root/elsewhere" -f "$root/extension/Makefile" DENO_SEMVER="$library" DESTDIR="$root/elsewhere/installed" install
-    for file in "$root/extension"/deno_semver*.control "$root/extension"/deno_semver--*.sql; do
+    set -- make -s -C "$root/elsewhere" -f "$postgres/Makefile" DENO_SEMVER="$library" DESTDIR="$root/elsewhere/installed"
+    run "$@" install
+    run "$@" -q all
+    ! "$@" -q -W "$library/lib/libdeno_semver.a" all || fail 'nothing is built over a newer library'
+    for file in "$postgres"/deno_semver*.control "$postgres"/deno_semver--*.sql; do
         cmp "$file" "$root/elsewhere/installed$(pg_config --sharedir)/extension/${file##*/}"
     done
 }
