@@ -36,6 +36,18 @@ EXPLAIN (VERBOSE, COSTS OFF) EXECUTE within('1.2.3');
 CREATE INDEX of_two ON versions(package) WHERE version <@ '^1 || ^3';
 EXPLAIN (COSTS OFF) SELECT * FROM versions WHERE version <@ '^1 || ^3' AND package = 'p3';
 DROP INDEX of_two;
+-- partitions, of which alternatives prune some
+SET enable_seqscan = on;
+CREATE TABLE parted(version semver) PARTITION BY RANGE (version);
+CREATE TABLE parted_1 PARTITION OF parted FOR VALUES FROM (MINVALUE) TO ('2.0.0-0');
+CREATE TABLE parted_2 PARTITION OF parted FOR VALUES FROM ('2.0.0-0') TO ('3.0.0-0');
+CREATE TABLE parted_3 PARTITION OF parted FOR VALUES FROM ('3.0.0-0') TO (MAXVALUE);
+INSERT INTO parted VALUES ('1.5.0'), ('2.0.0-0'), ('2.5.0'), ('3.0.0-0'), ('3.0.0'), ('3.0.0+a');
+EXPLAIN (COSTS OFF) SELECT * FROM parted WHERE version <@ '2.5 || =3.0.0';
+SELECT tableoid::regclass, * FROM parted WHERE version <@ '2.5 || =3.0.0';
+EXPLAIN (COSTS OFF) SELECT * FROM parted WHERE version <@ '^3';
+DROP TABLE parted;
+SET enable_seqscan = off;
 -- by each way the same rows
 CREATE TABLE ranges(r semver_range);
 INSERT INTO ranges VALUES ('1.2.3 || ^5.1'), ('^1 || ^3'), ('~1.2.0'), ('*'), ('>=1.2.0-a.1 <1.2.5 || 6.x'), ('>3'), ('<0.0.0'), ('<=2.1.1-a.3');
