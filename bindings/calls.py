@@ -23,7 +23,7 @@ OTHERS = {
     "C": {"api", "req_read", "version_read", "list_read", "req_free", "version_free", "list_free", "scans_free", "req_text", "req_equal", "req_order", "version_text"},
     "Python": set(),
     "JavaScript": set(),
-    "ranges": {"asked", "normal", "outdated", "overlap"},
+    "ranges": {"asked", "normal", "outdated"},
 }
 
 

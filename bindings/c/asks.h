@@ -27,7 +27,7 @@ typedef struct {
     ask(req_fits, REQ, NONE, CODE, one, TEXT("1.3.0-rc.1+b"), pre_releases)  \
     ask(req_matches, REQ, VER, CODE, one, other, pre_releases)               \
     ask(req_matches_release, REQ, NONE, CODE, one, 1, 3, 0)                  \
-    ask(req_overlap, REQ, REQ, CODE, one, other)                             \
+    ask(req_intersects, REQ, REQ, CODE, one, other)                          \
     ask(req_equal, REQ, REQ, CODE, one, other)                               \
     ask(req_order, REQ, REQ, CODE, one, other)                               \
     ask(req_text, REQ, NONE, MESSAGE, one, OUT)                              \

@@ -244,9 +244,9 @@ static void lowest(const text *t) {
     check_match(code, place);
 }
 
-static void overlap(const text *t) {
+static void intersects(const text *t) {
     size_t place = 99;
-    int32_t code = semver_overlap(grammar, BYTES(t[0]), BYTES(t[1]), &place);
+    int32_t code = semver_intersects(grammar, BYTES(t[0]), BYTES(t[1]), &place);
     check(code, FIT, NULL, 0);
     check_place(code, place);
 }
@@ -452,7 +452,7 @@ static const struct call {
     {"difference", 0, .ask = difference},
     {"compare", 0, .ask = compare, .held_versions = semver_version_compare},
     {"order", 0, .held_versions = semver_version_order},
-    {"overlap", 1, .ask = overlap, .held_reqs = semver_req_overlap},
+    {"intersects", 1, .ask = intersects, .held_reqs = semver_req_intersects},
     {"equal", 1, .held_reqs = semver_req_equal},
     {"req_order", 1, .of = ORDER, .held_reqs = semver_req_order},
     {"is_tag", 1, .ask = is_tag},

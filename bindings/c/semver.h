@@ -120,9 +120,10 @@ int32_t semver_increment(uint32_t release_type, const char *version, size_t vers
  * release SEMVER_MAJOR. SEMVER_NO_DIFFERENCE if the versions have the same precedence. */
 int32_t semver_difference(const char *one, size_t one_len, const char *other, size_t other_len, size_t *place);
 
-/* Whether two ranges overlap by their bounds: NO or YES. Two tags overlap if they are the same; a tag and a range never do. */
-int32_t semver_overlap(uint32_t grammar, const char *one, size_t one_len, const char *other, size_t other_len,
-                       size_t *place);
+/* Whether the bounds of two ranges overlap: NO or YES. There may be no version between them; semver_common is exact. Two tags overlap if
+ * they are the same; a tag and a range never do. */
+int32_t semver_intersects(uint32_t grammar, const char *one, size_t one_len, const char *other, size_t other_len,
+                          size_t *place);
 
 /* Whether the other range matches each version that the first one matches: YES; NO, with the lowest version that it doesn't match; or
  * TAG. */
@@ -292,8 +293,8 @@ int32_t semver_req_matches(const semver_req *range, const semver_ver *version, u
  * rules of pre-releases. */
 int32_t semver_req_matches_release(const semver_req *handle, uint64_t major, uint64_t minor, uint64_t patch);
 
-/* Whether two ranges overlap: as semver_overlap. */
-int32_t semver_req_overlap(const semver_req *one, const semver_req *other);
+/* Whether the bounds of two ranges overlap: as semver_intersects. */
+int32_t semver_req_intersects(const semver_req *one, const semver_req *other);
 
 /* Whether two ranges mean the same, whatever strings they were parsed from: NO or YES. */
 int32_t semver_req_equal(const semver_req *one, const semver_req *other);

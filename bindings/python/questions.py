@@ -18,7 +18,7 @@ BASES = {"zero": 0, "one": 1, "nothing": None}
 # How many options, a grammar and which pre-releases match, stand before the texts of a call.
 OPTIONS = {
     **dict.fromkeys(("fits", "filter", "best", "lowest", "within", "equivalent", "common", "common_all", "min_version", "explain", "scans"), 2),
-    **dict.fromkeys(("overlap", "normal", "package", "equal", "is_tag", "ranges", "dependency", "errors", "package_errors"), 1),
+    **dict.fromkeys(("intersects", "normal", "package", "equal", "is_tag", "ranges", "dependency", "errors", "package_errors"), 1),
     **dict.fromkeys(("sort", "increment", "difference", "compare", "order", "version", "version_error", "may_be_tag", "reference", "reference_errors"), 0),
     **dict.fromkeys(("version_parts", "name_with_version", "version_reference", "export_name", "key"), 0),
 }
@@ -171,8 +171,8 @@ def of_texts(name, texts, options):
         return [semver.difference(*texts) or "none"]
     if name == "compare":
         return order(semver.compare(*texts))
-    if name == "overlap":
-        return yes_or_no(semver.overlaps(*texts, **options))
+    if name == "intersects":
+        return yes_or_no(semver.intersects(*texts, **options))
     if name == "within":
         return found(semver.counterexample(*texts, **options), "no", "yes")
     if name == "equivalent":
@@ -236,8 +236,8 @@ def of_values(name, texts, options, again):
 
     if name == "fits":
         return yes_or_no(range_of(0).matches(version_of(1), **flag))
-    if name == "overlap":
-        return yes_or_no(range_of(0).overlaps(range_of(1)))
+    if name == "intersects":
+        return yes_or_no(range_of(0).intersects(range_of(1)))
     if name == "equal":
         return yes_or_no(range_of(0) == range_of(1))
     if name == "normal":

@@ -1,7 +1,7 @@
 // The page: what is typed is explained at once.
 
 import {
-  Version, VersionSyntaxError, canonical, common, compare, counterexample, diagnose, explain, isEquivalent, matches, minVersion, overlaps,
+  Version, VersionSyntaxError, canonical, common, compare, counterexample, diagnose, explain, isEquivalent, matches, minVersion, intersects,
 } from 'deno-semver';
 import { numberLine } from './number-line.js';
 
@@ -136,7 +136,7 @@ function comparisonOf(one, other, options) {
   return [
     ['Canonical form', canonical(other, { grammar })],
     ['Lowest common version', common([one, other], options) ?? 'none'],
-    ['Bounds overlap', overlaps(one, other, { grammar }) ? 'yes' : 'no'],
+    ['Bounds overlap', intersects(one, other, { grammar }) ? 'yes' : 'no'],
     ['First within second', outside(one, other)],
     ['Second within first', outside(other, one)],
     ['Same versions', isEquivalent(one, other, options) ? 'yes' : 'no'],

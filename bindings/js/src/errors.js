@@ -116,16 +116,16 @@ export function invalid(kind, grammar, source, index) {
 }
 
 /** The error of a call that was asked of these texts and returned a code that is no answer. */
-export function errorOf(code, grammar, ranges, versions = [], place = 0, isList = false) {
+export function errorOf(code, grammar, ranges, versions = [], place = 0, list = undefined) {
   switch (code) {
     case INVALID_RANGE:
-      return invalid(RANGE, grammar, ranges[place]);
+      return invalid(RANGE, grammar, ranges[place], list === 'ranges' ? place : undefined);
     case INVALID_VERSION:
-      return invalid(VERSION, grammar, versions[place], isList ? place : undefined);
+      return invalid(VERSION, grammar, versions[place], list === 'versions' ? place : undefined);
     case TAG:
       return new TagError(ranges.find((range) => isTag(grammar, range)));
     case NOT_UTF8:
-      return notEncodable(grammar, ranges, versions, isList);
+      return notEncodable(grammar, ranges, versions, list);
     default:
       return outOfMemory();
   }
@@ -138,11 +138,11 @@ function isTag(grammar, text) {
   return code === TAG;
 }
 
-function notEncodable(grammar, ranges, versions, isList) {
-  const range = ranges.find((text) => !isWellFormed(text));
-  if (range !== undefined) return invalid(RANGE, grammar, range);
+function notEncodable(grammar, ranges, versions, list) {
+  const at = ranges.findIndex((text) => !isWellFormed(text));
+  if (at >= 0) return invalid(RANGE, grammar, ranges[at], list === 'ranges' ? at : undefined);
   const place = versions.findIndex((text) => !isWellFormed(text));
-  return invalid(VERSION, grammar, versions[place], isList ? place : undefined);
+  return invalid(VERSION, grammar, versions[place], list === 'versions' ? place : undefined);
 }
 
 /** Throws where the value isn't a string. */

@@ -144,7 +144,7 @@ export class Range {
    */
   matches(version: string | Version): boolean;
   /** Whether both ranges overlap by their bounds. Two tags do if they are the same. */
-  overlaps(other: string | Range): boolean;
+  intersects(other: string | Range): boolean;
   /** Whether both ranges have the same bounds, or are the same tag, whatever their texts. */
   equals(other: string | Range): boolean;
   /**
@@ -259,7 +259,7 @@ export function counterexample(one: string | Range, other: string | Range, optio
 export function isEquivalent(one: string | Range, other: string | Range, options?: Options): boolean;
 
 /** Whether two ranges overlap by their bounds, between which there may be no version: {@link common} is exact. */
-export function overlaps(one: string | Range, other: string | Range, options?: GrammarOptions): boolean;
+export function intersects(one: string | Range, other: string | Range, options?: GrammarOptions): boolean;
 
 /** The lowest version that all ranges match; undefined where there is none, and where there are no ranges. */
 export function common(ranges: readonly (string | Range)[], options?: Options): string | undefined;

@@ -115,22 +115,22 @@ export function isEquivalent(one, other, options) {
   return askRanges(wasm.equivalent, one, other, options);
 }
 
-export function overlaps(one, other, options) {
-  return askRanges(wasm.overlap, one, other, options);
+export function intersects(one, other, options) {
+  return askRanges(wasm.intersects, one, other, options);
 }
 
 /** The text that the call wrote if it answered yes. */
-function textIf(code, grammar, ranges, place = 0) {
+function textIf(code, grammar, ranges, place = 0, list = undefined) {
   if (code === YES) return text();
   if (code === NO) return undefined;
-  throw errorOf(code, grammar, ranges, [], place);
+  throw errorOf(code, grammar, ranges, [], place, list);
 }
 
 export function common(ranges, options) {
   if (!Array.isArray(ranges)) throw new TypeError(`ranges must be an array, not ${kindOf(ranges)}`);
   const named = Object.fromEntries(Array.from(ranges, (range, index) => [`ranges[${index}]`, range]));
   const { texts, grammar, pre } = questionOf(named, options);
-  return textIf(ask1(wasm.common_all, grammar, linesOf(texts), pre), grammar, texts, wasm.place());
+  return textIf(ask1(wasm.common_all, grammar, linesOf(texts), pre), grammar, texts, wasm.place(), 'ranges');
 }
 
 export function minVersion(range, options) {

@@ -25,10 +25,10 @@ export function linesOf(texts) {
 export function filterList(grammar, range, versions, pre) {
   const texts = textsOf(versions);
   const code = ask2(wasm.filter, grammar, range, linesOf(texts), pre);
-  if (code !== YES) throw errorOf(code, grammar, [range], texts, 0, true);
+  if (code !== YES) throw errorOf(code, grammar, [range], texts, 0, 'versions');
   const answers = codes();
   const place = answers.indexOf(INVALID_VERSION);
-  if (place >= 0) throw errorOf(INVALID_VERSION, grammar, [range], texts, place, true);
+  if (place >= 0) throw errorOf(INVALID_VERSION, grammar, [range], texts, place, 'versions');
   return versions.filter((_, index) => answers[index] === YES);
 }
 
@@ -38,7 +38,7 @@ export function findInList(call, grammar, range, versions, pre) {
   const code = ask2(call, grammar, range, linesOf(texts), pre);
   if (code === NO) return undefined;
   if (code === YES) return versions[wasm.place()];
-  throw errorOf(code, grammar, [range], texts, invalidPlace(code), true);
+  throw errorOf(code, grammar, [range], texts, invalidPlace(code), 'versions');
 }
 
 // `place` is that of an invalid version.
@@ -50,6 +50,6 @@ function invalidPlace(code) {
 export function sortList(versions) {
   const texts = textsOf(versions);
   const code = wasm.sort(write(linesOf(texts)), texts.length);
-  if (code !== YES) throw errorOf(code, 0, [], texts, invalidPlace(code), true);
+  if (code !== YES) throw errorOf(code, 0, [], texts, invalidPlace(code), 'versions');
   return Array.from(places(), (place) => versions[place]);
 }

@@ -110,8 +110,8 @@ export class Range {
     return Range.#ask(other, 'other', options, (address) => call(this.#held.address, address) === YES);
   }
 
-  overlaps(other) {
-    return this.#askBoth(wasm.range_overlap, other);
+  intersects(other) {
+    return this.#askBoth(wasm.range_intersects, other);
   }
 
   equals(other) {

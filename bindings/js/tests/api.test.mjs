@@ -66,11 +66,13 @@ for (const [kind, semver] of [['ES modules', modules], ['CommonJS', common]]) {
     assert.equal(semver.counterexample('>=1.3', '^1.2'), '2.0.0');
     assert.equal(semver.isEquivalent('1.x', '^1'), true);
     assert.equal(semver.isEquivalent('1.x', '^1.1'), false);
-    assert.equal(semver.overlaps('>1.0.0', '<1.0.1'), true);
+    assert.equal(semver.intersects('>1.0.0', '<1.0.1'), true);
     assert.equal(semver.common(['^1.2', '~1.4 || ^2', '>1.4.0']), '1.4.1');
     assert.equal(semver.common(['>1.0.0', '<1.0.1']), undefined);
     assert.equal(semver.common(['>1.0.0', '<1.0.1'], { preReleases: true }), '1.0.1-0');
     assert.equal(semver.common([]), undefined);
+    for (const wrong of ['^1.2.3.4', '\ud800']) assert.equal(attempt(() => semver.common(['^1', wrong])).index, 1);
+    assert.equal(attempt(() => semver.isSubset('^1', '^1.2.3.4')).index, undefined);
     assert.equal(semver.minVersion('>1.0.0'), '1.0.1');
     assert.equal(semver.minVersion('>1.0.0 <1.0.1'), undefined);
     assert.equal(semver.canonical('>=1.2 <2 || 3.x'), '^1.2.0 || 3');
@@ -169,7 +171,7 @@ for (const [kind, semver] of [['ES modules', modules], ['CommonJS', common]]) {
       [() => new Version({}), 'version must be a string or a Version, not object'],
       [() => semver.isSubset('1', {}), 'other must be a string or a Range, not object'],
       [() => new Range([]), 'range must be a string or a Range, not an array'],
-      [() => new Range('1').overlaps(1), 'other must be a string or a Range, not number'],
+      [() => new Range('1').intersects(1), 'other must be a string or a Range, not number'],
       [() => semver.parsePackage(undefined), 'specifier must be a string, not undefined'],
     ];
     for (const [call, message] of calls) {
@@ -187,9 +189,9 @@ for (const [kind, semver] of [['ES modules', modules], ['CommonJS', common]]) {
     assert.deepEqual([false, true].map((preReleases) => new Range('^1', { preReleases }).matches('1.2.0-rc.1')), [false, true]);
     assert.equal(range.matches('1.3.0'), true);
     assert.equal(range.equals(new Range('^1.2')), true);
-    assert.equal(range.equals(range) && range.overlaps(range), true);
+    assert.equal(range.equals(range) && range.intersects(range), true);
     const [none] = ['>2 <1'].map((text) => new Range(text));
-    assert.equal(none.overlaps(none), false);
+    assert.equal(none.intersects(none), false);
     assert.equal(JSON.stringify({ range }), '{"range":">=1.2 <2"}');
     range.free();
     range.free();
@@ -258,13 +260,13 @@ for (const [kind, semver] of [['ES modules', modules], ['CommonJS', common]]) {
       assert.deepEqual([semver.compare(two, three), new Version('1.3.0').compare(three), `${new Version(two)}`], [-1, -1, '1.2.0']);
       assert.equal(semver.increment(two, 'minor'), '1.3.0');
       assert.equal(semver.isSubset(range('^1.3'), '^1.2') && semver.isSubset('^1.3', range('^1.2')), true);
-      assert.deepEqual([semver.counterexample(range('1'), '2'), semver.overlaps('1', range('1.2'))], ['1.0.0', true]);
+      assert.deepEqual([semver.counterexample(range('1'), '2'), semver.intersects('1', range('1.2'))], ['1.0.0', true]);
       assert.equal(semver.isEquivalent(range('1.x'), range('^1')), true);
       assert.deepEqual([semver.common([range('1'), '^1.2']), semver.minVersion(range('>1.0.0'))], ['1.2.0', '1.0.1']);
       assert.deepEqual([semver.canonical(range('>=1.2 <2')), semver.explain(range('1.x')).canonical], ['^1.2.0', '1']);
       assert.equal(semver.diagnose(range('1')), undefined);
       assert.deepEqual([`${new Range(range('^1'))}`, new Range(range('1', { preReleases: true })).matches('1.2.0-a')], ['^1', true]);
-      assert.equal(new Range('^1').overlaps(range('1.2')) && new Range('^1').equals(range('1.x')), true);
+      assert.equal(new Range('^1').intersects(range('1.2')) && new Range('^1').equals(range('1.x')), true);
       assert.deepEqual(new VersionList(versions).filter(range('>1.2')), [three, four]);
       assert.deepEqual(new VersionList(versions).filter(range('1'), { preReleases: true }), [two, pre, three]);
       const strict = range('1', { grammar: 'strict' });
@@ -275,10 +277,10 @@ for (const [kind, semver] of [['ES modules', modules], ['CommonJS', common]]) {
     });
   }
 
-  test(`${kind}: overlaps and equals of a text`, () => {
+  test(`${kind}: intersects and equals of a text`, () => {
     const range = new Range('^1.2');
-    assert.deepEqual([range.overlaps('1.4'), range.overlaps('2'), range.equals('>=1.2 <2'), range.equals('^1.3')], [true, false, true, false]);
-    assert.ok(attempt(() => range.overlaps('^1..2')) instanceof RangeSyntaxError);
+    assert.deepEqual([range.intersects('1.4'), range.intersects('2'), range.equals('>=1.2 <2'), range.equals('^1.3')], [true, false, true, false]);
+    assert.ok(attempt(() => range.intersects('^1..2')) instanceof RangeSyntaxError);
     assert.ok(attempt(() => new Range('1', { grammar: 'strict' }).equals('1 || 2')) instanceof RangeSyntaxError);
   });
 

@@ -61,7 +61,7 @@ static int32_t ask_held_by(address range) {
     if (IS(range_scans)) return wasm_range_scans(range, LAST);
     int32_t code = read_range(b, &other);
     if (code != SEMVER_YES) return code;
-    code = IS(range_equal) ? wasm_range_equal(range, other) : wasm_range_overlap(range, other);
+    code = IS(range_equal) ? wasm_range_equal(range, other) : wasm_range_intersects(range, other);
     wasm_range_free(other);
     return code;
 }
@@ -85,7 +85,7 @@ static int32_t ask(void) {
     ASK(within, FIRST, a, b, LAST);
     ASK(common, FIRST, a, b, LAST);
     ASK(equivalent, FIRST, a, b, LAST);
-    ASK(overlap, FIRST, a, b);
+    ASK(intersects, FIRST, a, b);
     ASK(increment, FIRST, a, b, LAST);
     ASK(difference, a, b);
     ASK(compare, a, b);

@@ -53,7 +53,7 @@ const WITH_GRAMMAR = {
   lowest: (o, range, text) => placeOr(linesOf(text), semver.lowest(range, linesOf(text), o)),
   list_best: (o, range, text) => listBest(o, range, text, 'best'),
   list_lowest: (o, range, text) => listBest(o, range, text, 'lowest'),
-  overlap: (o, one, other) => yesIf(semver.overlaps(one, other, o)),
+  intersects: (o, one, other) => yesIf(semver.intersects(one, other, o)),
   within: (o, one, other) => {
     const version = semver.counterexample(one, other, o);
     return version === undefined ? ['yes'] : ['no', version];

@@ -16,8 +16,8 @@ EXPORT(int32_t, compare)(uint32_t one_len, uint32_t other_len) {
     return semver_compare(TEXT(0, one_len), TEXT(one_len, other_len), &place);
 }
 
-EXPORT(int32_t, overlap)(uint32_t grammar, uint32_t one_len, uint32_t other_len) {
-    return semver_overlap(grammar, TEXT(0, one_len), TEXT(one_len, other_len), &place);
+EXPORT(int32_t, intersects)(uint32_t grammar, uint32_t one_len, uint32_t other_len) {
+    return semver_intersects(grammar, TEXT(0, one_len), TEXT(one_len, other_len), &place);
 }
 
 EXPORT(int32_t, within)(uint32_t grammar, uint32_t one_len, uint32_t other_len, uint32_t pre_releases) {
@@ -124,8 +124,8 @@ EXPORT(int32_t, range_is_tag)(address handle) {
     return semver_req_is_tag(RANGE(handle));
 }
 
-EXPORT(int32_t, range_overlap)(address one, address other) {
-    return semver_req_overlap(RANGE(one), RANGE(other));
+EXPORT(int32_t, range_intersects)(address one, address other) {
+    return semver_req_intersects(RANGE(one), RANGE(other));
 }
 
 EXPORT(int32_t, range_normal)(address handle) {

@@ -227,15 +227,15 @@ def _fail_two(code: int, ranges: Tuple[Tuple[bytes, str], ...], number: int, pla
     fail_range(code, text, number, place if code == INVALID_RANGE else None)
 
 
-def overlaps(one: AnyRange, other: AnyRange, *, grammar: Optional[Grammar] = None) -> bool:
+def intersects(one: AnyRange, other: AnyRange, *, grammar: Optional[Grammar] = None) -> bool:
     """Whether the bounds of two ranges overlap; `common` knows whether a version lies there. Two tags overlap if they are the same.
 
-    >>> overlaps(">1.0.0", "<1.0.1")
+    >>> intersects(">1.0.0", "<1.0.1")
     True
     """
     first, second, number = _two(one, other, grammar)
     place = c_size_t()
-    code = CALLS["overlap"](number, first[0], len(first[0]), second[0], len(second[0]), byref(place))
+    code = CALLS["intersects"](number, first[0], len(first[0]), second[0], len(second[0]), byref(place))
     if code >= 0:
         return code == YES
     return _fail_two(code, (first, second), number, place.value)

@@ -315,15 +315,15 @@ class Range:
     def __contains__(self, version: Union[str, Version]) -> bool:
         return self.matches(version)
 
-    def overlaps(self, other: Range) -> bool:
+    def intersects(self, other: Range) -> bool:
         """Whether the bounds of both ranges overlap; two tags do if they are the same.
 
-        >>> Range("^1.2").overlaps(Range(">=1.5 <3"))
+        >>> Range("^1.2").intersects(Range(">=1.5 <3"))
         True
         """
         if not isinstance(other, Range):
             wrong_type(other, "other", "Range")
-        return CALLS["req_overlap"](self._held.lent(), other._held.lent()) == YES
+        return CALLS["req_intersects"](self._held.lent(), other._held.lent()) == YES
 
     def scans(self, *, pre_releases: bool = False) -> List[Scan]:
         """What the range matches, as scans of an index on `Version.sort_key`: a version matches exactly if its key is in a scan of its kind.

@@ -280,8 +280,8 @@ class Errors(unittest.TestCase):
         self.assertFalse(semver.matches("1 || 2", "3.0.0", grammar="normalized"))
         # The grammar of one of two ranges is that of the other, too.
         for ranges in ((Range("1", "strict"), ""), ("", Range("1", "strict"))):
-            self.assertRaises(semver.InvalidRange, semver.overlaps, *ranges)
-            self.assertRaises(ValueError, semver.overlaps, *ranges, grammar="npm")
+            self.assertRaises(semver.InvalidRange, semver.intersects, *ranges)
+            self.assertRaises(ValueError, semver.intersects, *ranges, grammar="npm")
 
 
 class Arguments(unittest.TestCase):
@@ -316,7 +316,7 @@ class Arguments(unittest.TestCase):
             self.assertRaises(TypeError, Version, wrong)
             self.assertRaises(TypeError, Range, wrong)
             self.assertRaises(TypeError, Range("1").matches, wrong)
-            self.assertRaises(TypeError, Range("1").overlaps, wrong)
+            self.assertRaises(TypeError, Range("1").intersects, wrong)
             self.assertRaises(TypeError, Version("1.0.0").precedes, wrong)
             self.assertRaises(TypeError, Range, "1", wrong)
         self.assertRaises(TypeError, semver.common)
@@ -405,7 +405,7 @@ class Lifetimes(unittest.TestCase):
 
     def test_values_and_themselves(self):
         range_, none, version = Range("^1.2 || 3"), Range("<0.0.0"), Version("1.0.0-a+b")
-        self.assertEqual((range_ == range_, range_.overlaps(range_), none.overlaps(none)), (True, True, False))
+        self.assertEqual((range_ == range_, range_.intersects(range_), none.intersects(none)), (True, True, False))
         self.assertEqual((version == version, version < version, version.precedes(version)), (True, False, False))
 
     def test_threads(self):
@@ -431,7 +431,7 @@ class Lifetimes(unittest.TestCase):
                 if len(found) != 47 or semver.sort(versions) != versions:
                     wrong.append(found)
                 before = [one.precedes(other) for one, other in zip(versions, [*versions[1:], versions[-1]])]
-                if before.count(True) != 49 or not (range_ == range_ and range_.overlaps(range_)):
+                if before.count(True) != 49 or not (range_ == range_ and range_.intersects(range_)):
                     wrong.append(before)
 
         threads = [threading.Thread(target=ask) for _ in range(8)]

@@ -36,7 +36,7 @@ calls! {
     fn semver_req_fits(handle: &Requirement, version: &str, pre_releases: u32) -> i32;
     fn semver_req_matches(range: &Requirement, version: &VersionHandle, pre_releases: u32) -> i32;
     fn semver_req_matches_release(handle: &Requirement, major: u64, minor: u64, patch: u64) -> i32;
-    fn semver_req_overlap(one: &Requirement, other: &Requirement) -> i32;
+    fn semver_req_intersects(one: &Requirement, other: &Requirement) -> i32;
     fn semver_version_compare(one: &VersionHandle, other: &VersionHandle) -> i32;
     fn semver_version_key(handle: &VersionHandle, out: &mut [u8], needed: &mut usize) -> i32;
     fn semver_version_order(one: &VersionHandle, other: &VersionHandle) -> i32;

@@ -152,7 +152,7 @@ impl VersionReq {
     /// Whether both overlap by their bounds; two tags do if they are the same.
     #[inline]
     pub fn intersects(&self, other: &VersionReq) -> bool {
-        answer(semver_req_overlap(self.held(), other.held())) == Some(true)
+        answer(semver_req_intersects(self.held(), other.held())) == Some(true)
     }
 
     /// The lowest version that matches, by npm's rule for pre-releases or without it.

@@ -352,7 +352,7 @@ fn ask(question: &[&str]) -> Option<Answers> {
         ["difference", one, other] => versions(one).and_then(|one| pairs(one, versions(other)?, same, difference)),
         ["compare", one, other] => versions(one).and_then(|one| pairs(one, versions(other)?, same, precedence)),
         ["order", one, other] => versions(one).and_then(|one| pairs(one, versions(other)?, same, order)),
-        ["overlap", grammar, one, other] => reqs(grammar, one, other, overlap),
+        ["intersects", grammar, one, other] => reqs(grammar, one, other, overlap),
         ["equal", grammar, one, other] => reqs(grammar, one, other, equal),
         ["req_order", grammar, one, other] => reqs(grammar, one, other, req_order),
         ["normal", name, text] => requirements(name, text).and_then(|all| {
@@ -389,7 +389,7 @@ fn wanted(call: &str, answer: &str) -> String {
         ("best" | "lowest" | "sort", ["invalid version", _, place]) => ["invalid version", place].join(US),
         // These have a message and no place.
         (
-            "overlap" | "equal" | "req_order" | "increment" | "difference" | "compare" | "order",
+            "intersects" | "equal" | "req_order" | "increment" | "difference" | "compare" | "order",
             [code @ ("invalid range" | "invalid version"), message, _],
         ) => [*code, *message].join(US),
         // These have a place even if there is one range alone.

@@ -144,9 +144,9 @@ pub extern "C" fn semver_compare(alloc: Global, one: &[u8], other: &[u8], place:
     code.number()
 }
 
-/// Whether two ranges overlap: yes or no. With an invalid range `place` is which of the two it is.
+/// Whether the bounds of two ranges overlap: yes or no. With an invalid range `place` is which of the two it is.
 #[unsafe(no_mangle)]
-pub extern "C" fn semver_overlap(
+pub extern "C" fn semver_intersects(
     alloc: Global,
     grammar: u32,
     one: &[u8],
@@ -852,9 +852,9 @@ pub extern "C" fn semver_req_is_tag(handle: &mut RequirementHandle) -> i32
     code.number()
 }
 
-/// Whether the ranges of two handles overlap: 0 no, 1 yes.
+/// Whether the bounds of two handles overlap: 0 no, 1 yes.
 #[unsafe(no_mangle)]
-pub extern "C" fn semver_req_overlap(
+pub extern "C" fn semver_req_intersects(
     one: &mut RequirementHandle,
     other: &mut RequirementHandle,
 ) -> i32

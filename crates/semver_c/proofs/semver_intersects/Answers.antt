@@ -3,7 +3,7 @@ use Rattle.std.proofs.lemmas.Int.{to_z-of_z}
 use Rattle.semver_c.specs.Codes.{bool_code, code_of, number_of}
 use Rattle.semver_c.specs.Arguments.{call_outcome}
 use Rattle.semver_c.proofs.Replies.{coded_reply, placed_reply, unplaced}
-use Rattle.semver_c.proofs.semver_overlap.Goals as goal
+use Rattle.semver_c.proofs.semver_intersects.Goals as goal
 
 pub returns-clause-code : goal.returns-clause-code
 returns-clause-code c =
