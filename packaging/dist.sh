@@ -152,7 +152,7 @@ debian() {
 rust_crate() {
     name=deno_semver_proved-$VERSION
     mkdir -p "$work/$name/lib/x86_64-unknown-linux-gnu"
-    cp -r bindings/rust/src bindings/rust/examples bindings/rust/build.rs bindings/rust/Cargo.toml "$work/$name"
+    cp -r bindings/rust/src bindings/rust/examples bindings/rust/tests bindings/rust/build.rs bindings/rust/Cargo.toml "$work/$name"
     unlinked <bindings/rust/README.md >"$work/$name/README.md"
     cp LICENSE packaging/THIRD-PARTY "$work/$name"
     cp "$calls" "$heap" "$work/$name/lib/x86_64-unknown-linux-gnu"

@@ -311,6 +311,7 @@ try_packages() {
         printf 'fn main() { println!("{}", deno_semver_proved::npm::parse_npm_version_req(">=1.2 <2 || 3").unwrap().to_string_normalized()) }\n' >"$root/user/src/main.rs"
         (cd "$root/user" && cargo build --offline --quiet)
         expect '^1.2.0 || 3' "$root/user/target/debug/user"
+        expect "$(head -n 4 examples/resolved.txt)" cargo run --offline --quiet --manifest-path "$root/deno_semver_proved-$version/Cargo.toml" --example resolve
     fi
     try_javascript
 }
