@@ -1,5 +1,5 @@
 #!/usr/bin/env python3
-"""Loads versions of packages into SQLite and PostgreSQL, asks both what docs/DATABASES.md has a table of, each question in several ways, and
+"""Loads versions of packages into SQLite and PostgreSQL, asks both what docs/PERFORMANCE.md has a table of, each question in several ways, and
 prints that table. All ways must have the same answer.
 
     tools/scale/measure.py LIBRARY [VERSIONS]
