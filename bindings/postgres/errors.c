@@ -5,6 +5,7 @@
  */
 #include "deno_semver.h"
 
+#include "catalog/namespace.h"
 #include "lib/stringinfo.h"
 #include "mb/pg_wchar.h"
 #include "utils/builtins.h"
@@ -74,15 +75,45 @@ sv_must_repeat(sv_written *it)
 	return true;
 }
 
-/* A database in SQL_ASCII has any bytes, which the library checks. */
+/* Each encoding of a server has ASCII as it is. */
+static bool
+is_ascii(const char *at, int len)
+{
+	for (int n = 0; n < len; n++)
+	{
+		if (IS_HIGHBIT_SET(at[n]))
+			return false;
+	}
+	return true;
+}
+
+/*
+ * A string in UTF-8.  What has no UTF-8 becomes a byte that isn't, which the
+ * library rejects: an error of the conversion wouldn't be soft, and semver_try
+ * has none.  A database in SQL_ASCII has any bytes, which the library checks.
+ */
 static const char *
 to_utf8(const char *at, int len)
 {
 	int			encoding = GetDatabaseEncoding();
+	Oid			conversion;
+	Size		room;
+	char	   *utf8;
 
-	if (encoding == PG_UTF8 || encoding == PG_SQL_ASCII)
+	if (encoding == PG_UTF8 || encoding == PG_SQL_ASCII || is_ascii(at, len))
 		return at;
-	return pg_server_to_any(at, len, PG_UTF8);
+	conversion = FindDefaultConversionProc(encoding, PG_UTF8);
+	if (!OidIsValid(conversion))
+		return "\xFF";
+	room = (Size) len * MAX_CONVERSION_GROWTH + 1;
+	utf8 = MemoryContextAllocHuge(CurrentMemoryContext, room);
+	if (pg_do_encoding_conversion_buf(conversion, encoding, PG_UTF8,
+									  (unsigned char *) unconstify(char *, at), len,
+									  (unsigned char *) utf8,
+									  (int) Min(room, (Size) INT_MAX),
+									  true) != len)
+		return "\xFF";
+	return utf8;
 }
 
 sv_string

@@ -64,6 +64,15 @@ regress() {
     done
 }
 
+# Bytes that have no UTF-8 are no version, and no error.
+without_utf8() {
+    query postgres "create database odd template template0 locale 'C' encoding 'WIN1252'"
+    query odd 'create extension deno_semver'
+    expect t odd "select semver_try(chr(129)) is null and semver_try('1.0.0-' || chr(129)) is null and semver_try('1.0.0-rc.1') = '1.0.0-rc.1'"
+    rejects 'invalid byte sequence for type semver' odd "select chr(129)::semver"
+    query postgres 'drop database odd'
+}
+
 # ---- what is stored, in the database of this name
 
 version="select extversion from pg_extension where extname = 'deno_semver'"
@@ -214,6 +223,7 @@ installs_from_elsewhere
 initialize
 start -c autovacuum=off
 regress
+without_utf8
 store
 dump
 update
