@@ -63,7 +63,7 @@ TRACEME, DETACH = 0, 17
 LIBC = ctypes.CDLL(None, use_errno=True)
 LIBC.ptrace.argtypes = (ctypes.c_long, ctypes.c_int, ctypes.c_void_p, ctypes.c_void_p)
 # How many arguments or lines a program gets, and within how many seconds it answers.
-PLENTY, SOON = 200_000, 20
+PLENTY, SOON = 200_000, 60
 # How many alternatives two requirements have that are asked about together, and how many seconds that may take.
 ALTERNATIVES, MOMENT = 3_200, 1
 
