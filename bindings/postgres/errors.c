@@ -139,6 +139,8 @@ sv_server(const char *utf8, size_t len)
 {
 	char	   *copy = pnstrdup(utf8, len);
 
+	if (is_ascii(utf8, (int) len))
+		return copy;
 	return pg_any_to_server(copy, (int) strlen(copy), PG_UTF8);
 }
 

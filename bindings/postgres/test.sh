@@ -66,10 +66,16 @@ regress() {
 
 # Bytes that have no UTF-8 are no version, and no error.
 without_utf8() {
-    query postgres "create database odd template template0 locale 'C' encoding 'WIN1252'"
+    query postgres "create database odd template template0 locale 'C' locale_provider libc encoding 'WIN1252'"
     query odd 'create extension deno_semver'
     expect t odd "select semver_try(chr(129)) is null and semver_try('1.0.0-' || chr(129)) is null and semver_try('1.0.0-rc.1') = '1.0.0-rc.1'"
     rejects 'invalid byte sequence for type semver' odd "select chr(129)::semver"
+    query postgres 'drop database odd'
+    # There is no conversion between this encoding and UTF-8, and ASCII needs none.
+    query postgres "create database odd template template0 locale 'C' locale_provider libc encoding 'MULE_INTERNAL'"
+    query odd 'create extension deno_semver'
+    expect '^1.2|t' odd "select '^1.2'::semver_range, '^1.2'::semver_range @> '1.3.0'"
+    rejects 'invalid input syntax for type semver: "1.2"' odd "select '1.2'::semver"
     query postgres 'drop database odd'
 }
 
