@@ -305,13 +305,16 @@ try_packages() {
     tar -C "$root" -xzf "$root/first/deno_semver_proved-$version-x86_64-linux.tar.gz"
     licensed "$root/deno_semver_proved-$version"
     links_lead "$root/deno_semver_proved-$version/README.md"
+    # Cargo builds nothing in the crate's folder unless each test that Cargo.toml names is there.
+    for name in $(sed -n '/^\[\[test\]\]/{n;s/name = "\(.*\)"/\1/p}' bindings/rust/Cargo.toml); do
+        [ -f "$root/deno_semver_proved-$version/tests/$name.rs" ] || fail "the Rust crate has no tests/$name.rs"
+    done
     if has cargo; then
         mkdir -p "$root/user/src"
         printf '[package]\nname = "user"\nversion = "0.1.0"\nedition = "2021"\n[dependencies]\ndeno_semver_proved = { path = "../deno_semver_proved-%s" }\n' "$version" >"$root/user/Cargo.toml"
         printf 'fn main() { println!("{}", deno_semver_proved::npm::parse_npm_version_req(">=1.2 <2 || 3").unwrap().to_string_normalized()) }\n' >"$root/user/src/main.rs"
         (cd "$root/user" && cargo build --offline --quiet)
         expect '^1.2.0 || 3' "$root/user/target/debug/user"
-        expect "$(head -n 4 examples/resolved.txt)" cargo run --offline --quiet --manifest-path "$root/deno_semver_proved-$version/Cargo.toml" --example resolve
     fi
     try_javascript
 }
