@@ -280,9 +280,12 @@ CREATE OPERATOR <> (LEFTARG = semver_range, RIGHTARG = semver_range, FUNCTION = 
 CREATE OPERATOR >= (LEFTARG = semver_range, RIGHTARG = semver_range, FUNCTION = semver_range_ge, COMMUTATOR = <=, NEGATOR = <, RESTRICT = scalargesel, JOIN = scalargejoinsel);
 CREATE OPERATOR > (LEFTARG = semver_range, RIGHTARG = semver_range, FUNCTION = semver_range_gt, COMMUTATOR = <, NEGATOR = <=, RESTRICT = scalargtsel, JOIN = scalargtjoinsel);
 COMMENT ON OPERATOR = (semver_range, semver_range) IS 'both have the same alternatives in the same order';
+CREATE FUNCTION semver_range_sortsupport(internal) RETURNS void AS 'MODULE_PATHNAME', 'deno_semver_range_sortsupport'
+  LANGUAGE C IMMUTABLE STRICT PARALLEL SAFE;
 -- Equal ranges may be different strings, so an index keeps each.
 CREATE OPERATOR CLASS semver_range_ops DEFAULT FOR TYPE semver_range USING btree AS
-  OPERATOR 1 <, OPERATOR 2 <=, OPERATOR 3 =, OPERATOR 4 >=, OPERATOR 5 >, FUNCTION 1 semver_range_cmp(semver_range, semver_range);
+  OPERATOR 1 <, OPERATOR 2 <=, OPERATOR 3 =, OPERATOR 4 >=, OPERATOR 5 >,
+  FUNCTION 1 semver_range_cmp(semver_range, semver_range), FUNCTION 2 semver_range_sortsupport(internal);
 CREATE OPERATOR CLASS semver_range_ops DEFAULT FOR TYPE semver_range USING hash AS
   OPERATOR 1 =, FUNCTION 1 semver_range_hash(semver_range), FUNCTION 2 semver_range_hash_extended(semver_range, bigint);
 

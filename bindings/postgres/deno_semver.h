@@ -18,6 +18,7 @@
 #if PG_VERSION_NUM >= 160000
 #include "varatt.h"
 #endif
+#include "utils/sortsupport.h"
 #include <semver.h>
 
 /* What the files share isn't exported, so the compiler may inline it. */
@@ -54,6 +55,7 @@ typedef struct
 
 extern void sv_begin(sv_written *it);
 extern bool sv_must_repeat(sv_written *it);
+extern void sv_end(sv_written *it);
 
 #define SV_OUT(it) (it)->at, (it)->room, &(it)->len
 
@@ -86,6 +88,7 @@ extern void sv_reject_bound(Node *context, const char *bound);
 extern bool sv_is_long_version(Node *context, sv_string version);
 extern bool sv_is_long_range(Node *context, sv_string range);
 extern void sv_reject_stored(const char *what);
+extern void sv_reject_memory(void);
 
 /* The grammar of this name. */
 extern uint32_t sv_grammar(const text *name);
@@ -120,6 +123,18 @@ extern const char *sv_low(const sv_scans *scans, uint32_t index);
 extern const char *sv_high(const sv_scans *scans, uint32_t index);
 extern void sv_hull(const struct varlena *range, const char **low,
 					const char **high);
+
+/* Sorting, with the first bytes of a key as a number. */
+extern int	sv_compare_stored(Datum one, Datum other,
+							  int (*order) (const struct varlena *,
+											const struct varlena *));
+extern uint64 sv_first_bytes(sv_string key);
+extern void sv_prepare_sort(SortSupport support,
+							int (*compare) (Datum, Datum, SortSupport),
+							Datum (*abbreviated) (Datum, SortSupport));
+
+/* The type of this name in the schema of a function of the extension. */
+extern Oid	sv_type_of(Oid function, const char *name);
 
 /* The functions of an order, and each of them. */
 #define SV_COMPARES(name, order, result) \

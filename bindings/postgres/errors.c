@@ -75,6 +75,14 @@ sv_must_repeat(sv_written *it)
 	return true;
 }
 
+/* Frees what a call wrote, where it would stay for long. */
+void
+sv_end(sv_written *it)
+{
+	if (it->at != it->near)
+		pfree(it->at);
+}
+
 /* Each encoding of a server has ASCII as it is. */
 static bool
 is_ascii(const char *at, int len)
@@ -175,14 +183,20 @@ sv_grammar(const text *name)
 
 /* ---- errors */
 
+void
+sv_reject_memory(void)
+{
+	ereport(ERROR,
+			(errcode(ERRCODE_OUT_OF_MEMORY),
+			 errmsg("out of memory")));
+}
+
 /* Errors that have nothing to do with a string. */
 static void
 reject_call(int32_t code)
 {
 	if (code == SEMVER_NO_MEMORY)
-		ereport(ERROR,
-				(errcode(ERRCODE_OUT_OF_MEMORY),
-				 errmsg("out of memory")));
+		sv_reject_memory();
 	if (code == SEMVER_NO_VALUE || code == SEMVER_NO_GRAMMAR)
 		elog(ERROR, "unexpected code %d", code);
 }

@@ -489,7 +489,7 @@ by_range(const struct varlena *one, const struct varlena *other)
 		return 0;
 	is = order_of_texts(a, b, &code);
 	if (code == SEMVER_NO_MEMORY)
-		sv_reject_range(NULL, SEMVER_NPM, sv_string_of(a, strlen(a)), code);
+		sv_reject_memory();
 	if (code != SEMVER_YES)
 		sv_reject_stored("semver_range");
 	return is;
@@ -508,6 +508,181 @@ is_equal(const struct varlena *one, const struct varlena *other)
 
 SV_ORDER(deno_semver_range, by_range)
 SV_EQUALITY(deno_semver_range, is_equal)
+
+/* ---- sorting: where the first alternative starts tells most ranges apart */
+
+#define SLOTS 512
+
+/* Longer strings share the first two slots, so a sort holds few of them. */
+#define MOST_OF_SLOT 256
+
+/* A range that a sort has parsed, its string, and the number of its start. */
+typedef struct
+{
+	char	   *string;			/* NULL if nothing is parsed */
+	semver_req	req;
+	bool		has_number;
+	uint64		number;
+} parsed_range;
+
+typedef struct
+{
+	parsed_range slots[SLOTS];
+	MemoryContextCallback callback;
+} parsed_ranges;
+
+static void
+free_parsed(void *it)
+{
+	for (int n = 0; n < SLOTS; n++)
+		semver_req_free(&((parsed_ranges *) it)->slots[n].req);
+}
+
+/* What a sort has parsed.  It is freed with the sort, also after an error. */
+static parsed_ranges *
+parsed_by(SortSupport support)
+{
+	if (support->ssup_extra == NULL)
+	{
+		parsed_ranges *it = MemoryContextAllocZero(support->ssup_cxt, sizeof(*it));
+
+		it->callback.func = free_parsed;
+		it->callback.arg = it;
+		MemoryContextRegisterResetCallback(support->ssup_cxt, &it->callback);
+		support->ssup_extra = it;
+	}
+	return support->ssup_extra;
+}
+
+/* A range that is parsed, in another slot than that of the other one. */
+static parsed_range *
+parse(SortSupport support, const char *string, const parsed_range *other)
+{
+	parsed_ranges *all = parsed_by(support);
+	size_t		len = strlen(string);
+	uint32		index = 0;
+	parsed_range *it;
+	char		none[1];
+	size_t		needed;
+	int32_t		code;
+
+	if (len <= MOST_OF_SLOT)
+		index = hash_bytes((const unsigned char *) string, (int) len) % SLOTS;
+	if (&all->slots[index] == other)
+		index ^= 1;
+	it = &all->slots[index];
+	if (it->string != NULL && strcmp(it->string, string) == 0)
+		return it;
+	if (it->string != NULL)
+		pfree(it->string);
+	it->string = NULL;
+	code = semver_req_read(SEMVER_NPM, string, len, &it->req, none, 0, &needed);
+	if (code == SEMVER_NO_MEMORY)
+		sv_reject_memory();
+	if (code != SEMVER_YES)
+		sv_reject_stored("semver_range");
+	it->has_number = false;
+	it->string = MemoryContextStrdup(support->ssup_cxt, string);
+	return it;
+}
+
+static int
+compare_ranges(Datum one, Datum other, SortSupport support)
+{
+	struct varlena *a = PG_DETOAST_DATUM_PACKED(one);
+	struct varlena *b = PG_DETOAST_DATUM_PACKED(other);
+	const char *string = text_of(a);
+	const char *other_string = text_of(b);
+	int			is = 0;
+
+	if (strcmp(string, other_string) != 0)
+	{
+		const parsed_range *range = parse(support, string, NULL);
+		const parsed_range *other_range = parse(support, other_string, range);
+
+		is = semver_req_order(&range->req, &other_range->req) - SEMVER_SAME;
+	}
+	if ((Pointer) a != DatumGetPointer(one))
+		pfree(a);
+	if ((Pointer) b != DatumGetPointer(other))
+		pfree(b);
+	return is;
+}
+
+/*
+ * The start of the first alternative as a number that compares as ranges do.
+ * Without alternatives a range is the lowest, the higher start comes before the
+ * lower one, and a range without a start is the highest.
+ */
+static uint64
+number_of_start(const char *json)
+{
+	static const char VERSION[] = "\"version\":\"";
+	const char *start = strstr(json, "\"start\":");
+	const char *version;
+	sv_written	key;
+	int32_t		code;
+	uint64		number;
+
+	if (start == NULL)
+		return 0;
+	version = strstr(start, VERSION);
+	if (start[strlen("\"start\":")] != '{' || version == NULL)
+		return PG_UINT64_MAX;
+	version += strlen(VERSION);
+	SV_WRITES(code, &key, semver_key(version, strcspn(version, "\""),
+									 SV_OUT(&key)));
+	if (code != SEMVER_YES)
+		sv_reject_memory();
+	number = PG_UINT64_MAX - sv_first_bytes(sv_string_of(key.at, key.len));
+	sv_end(&key);
+	return number;
+}
+
+/* What is allocated here would stay until the sort ends. */
+static uint64
+number_of(const char *string)
+{
+	sv_written	written;
+	int32_t		code;
+	char	   *json;
+	uint64		number;
+
+	SV_WRITES(code, &written, semver_ranges(SEMVER_NPM, string, strlen(string),
+											SV_OUT(&written)));
+	if (code != SEMVER_YES)
+		sv_reject_memory();
+	json = pnstrdup(written.at, written.len);
+	number = number_of_start(json);
+	pfree(json);
+	sv_end(&written);
+	return number;
+}
+
+static Datum
+abbreviate(Datum original, SortSupport support)
+{
+	struct varlena *range = PG_DETOAST_DATUM_PACKED(original);
+	parsed_range *it = parse(support, text_of(range), NULL);
+
+	if (!it->has_number)
+	{
+		it->number = number_of(it->string);
+		it->has_number = true;
+	}
+	if ((Pointer) range != DatumGetPointer(original))
+		pfree(range);
+	return UInt64GetDatum(it->number);
+}
+
+PG_FUNCTION_INFO_V1(deno_semver_range_sortsupport);
+Datum
+deno_semver_range_sortsupport(PG_FUNCTION_ARGS)
+{
+	sv_prepare_sort((SortSupport) PG_GETARG_POINTER(0), compare_ranges,
+					abbreviate);
+	PG_RETURN_VOID();
+}
 
 PG_FUNCTION_INFO_V1(deno_semver_range_hash);
 Datum

@@ -8,7 +8,6 @@
 #include "common/hashfn.h"
 #include "libpq/pqformat.h"
 #include "utils/builtins.h"
-#include "utils/sortsupport.h"
 
 /* What is sent: the format, and the version as displayed, or the key of a bound. */
 #define FORMAT 1
@@ -318,7 +317,7 @@ by_build(const struct varlena *one, const struct varlena *other)
 	semver_version_free(&v);
 	semver_version_free(&w);
 	if (code == SEMVER_NO_MEMORY)
-		sv_reject_version(NULL, a, code);
+		sv_reject_memory();
 	if (code < 0)
 		sv_reject_stored("semver");
 	return code - SEMVER_SAME;
@@ -438,9 +437,9 @@ deno_semver_precedence_hash_extended(PG_FUNCTION_ARGS)
 
 /* ---- sorting: the first eight bytes of a key tell most versions apart */
 
-static inline int
-compare_stored(Datum one, Datum other,
-			   int (*order) (const struct varlena *, const struct varlena *))
+int
+sv_compare_stored(Datum one, Datum other,
+				  int (*order) (const struct varlena *, const struct varlena *))
 {
 	struct varlena *a = PG_DETOAST_DATUM_PACKED(one);
 	struct varlena *b = PG_DETOAST_DATUM_PACKED(other);
@@ -456,39 +455,48 @@ compare_stored(Datum one, Datum other,
 static int
 compare_versions(Datum one, Datum other, SortSupport support)
 {
-	return compare_stored(one, other, by_version);
+	return sv_compare_stored(one, other, by_version);
 }
 
 static int
 compare_precedence(Datum one, Datum other, SortSupport support)
 {
-	return compare_stored(one, other, by_precedence);
+	return sv_compare_stored(one, other, by_precedence);
 }
 
-/* The first bytes of the key, as a number that compares as they do. */
-static Datum
-abbreviate(Datum original, SortSupport support)
+/* The first bytes of a key, as a number that compares as they do. */
+uint64
+sv_first_bytes(sv_string key)
 {
-	struct varlena *version = PG_DETOAST_DATUM_PACKED(original);
-	sv_string	key = sv_key(version);
 	uint64		first = 0;
 
 	for (size_t n = 0; n < sizeof(first); n++)
 		first = first << 8 | (n < key.len ? (unsigned char) key.at[n] : 0);
+	return first;
+}
+
+static Datum
+abbreviate(Datum original, SortSupport support)
+{
+	struct varlena *version = PG_DETOAST_DATUM_PACKED(original);
+	uint64		first = sv_first_bytes(sv_key(version));
+
 	if ((Pointer) version != DatumGetPointer(original))
 		pfree(version);
 	return UInt64GetDatum(first);
 }
 
-/* To abbreviate a key costs less than to compare two. */
+/* To abbreviate a value costs less than to compare two. */
 static bool
 never_abort(int count, SortSupport support)
 {
 	return false;
 }
 
-static void
-prepare_sort(SortSupport support, int (*compare) (Datum, Datum, SortSupport))
+void
+sv_prepare_sort(SortSupport support,
+				int (*compare) (Datum, Datum, SortSupport),
+				Datum (*abbreviated) (Datum, SortSupport))
 {
 	support->comparator = compare;
 #if SIZEOF_DATUM == 8
@@ -496,7 +504,7 @@ prepare_sort(SortSupport support, int (*compare) (Datum, Datum, SortSupport))
 	{
 		support->comparator = ssup_datum_unsigned_cmp;
 		support->abbrev_full_comparator = compare;
-		support->abbrev_converter = abbreviate;
+		support->abbrev_converter = abbreviated;
 		support->abbrev_abort = never_abort;
 	}
 #endif
@@ -506,7 +514,8 @@ PG_FUNCTION_INFO_V1(deno_semver_sortsupport);
 Datum
 deno_semver_sortsupport(PG_FUNCTION_ARGS)
 {
-	prepare_sort((SortSupport) PG_GETARG_POINTER(0), compare_versions);
+	sv_prepare_sort((SortSupport) PG_GETARG_POINTER(0), compare_versions,
+					abbreviate);
 	PG_RETURN_VOID();
 }
 
@@ -514,6 +523,7 @@ PG_FUNCTION_INFO_V1(deno_semver_precedence_sortsupport);
 Datum
 deno_semver_precedence_sortsupport(PG_FUNCTION_ARGS)
 {
-	prepare_sort((SortSupport) PG_GETARG_POINTER(0), compare_precedence);
+	sv_prepare_sort((SortSupport) PG_GETARG_POINTER(0), compare_precedence,
+					abbreviate);
 	PG_RETURN_VOID();
 }

@@ -32,6 +32,14 @@ SELECT count(*) FROM pairs one, (SELECT r FROM pairs WHERE r::text LIKE '>1%' LI
   WHERE (one.r = other.r) <> (semver_range_cmp(one.r, other.r) = 0) OR (one.r < other.r) <> (semver_range_cmp(one.r, other.r) < 0)
     OR semver_range_cmp(one.r, other.r) <> -semver_range_cmp(other.r, one.r) OR (one.r = other.r AND semver_range_hash(one.r) <> semver_range_hash(other.r))
     OR (one.r = other.r) = (one.r <> other.r);
+-- A sort finds the order of each comparison: by the starts of ranges, which may differ late, and of strings of each length.
+INSERT INTO pairs SELECT (start || ' ' || "end")::semver_range
+  FROM unnest('{>=1.234567890.0, >=1.234567890.1, >1.234567890.0, >=18446744073709551615.0.0, ">=1.0.0-a", ">=1.0.0-b.1", "<0.0.0", ""}'::text[]) start,
+    unnest('{"", "<2.345678901.0", "<=2.345678901.0", "<2.345678901.0 || 3", "<2.0.0+b", "<2.0.0+a"}'::text[]) "end";
+INSERT INTO pairs SELECT ('>=1.0.0-' || repeat('a', 300) || n)::semver_range FROM generate_series(1, 20) n;
+INSERT INTO pairs SELECT (n || ' || 1')::semver_range FROM generate_series(1, 2000) n;
+SELECT count(*) > 2000 AS many, count(*) FILTER (WHERE semver_range_cmp(before, r) > 0) AS disordered FROM (SELECT r, lag(r) OVER (ORDER BY r) AS before FROM pairs) x;
+SELECT count(*) FILTER (WHERE semver_range_cmp(before, r) < 0) AS disordered FROM (SELECT r, lag(r) OVER (ORDER BY r DESC, r::text) AS before FROM pairs) x;
 -- indexes
 CREATE INDEX by_order ON pairs(r);
 CREATE INDEX by_hash ON pairs USING hash (r);
