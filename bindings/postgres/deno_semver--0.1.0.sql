@@ -233,6 +233,14 @@ CREATE FUNCTION semver_precedence_hash_extended(semver, bigint) RETURNS bigint A
 CREATE OPERATOR CLASS semver_precedence_ops FOR TYPE semver USING btree AS
   OPERATOR 1 #<, OPERATOR 2 #<=, OPERATOR 3 #=, OPERATOR 4 #>=, OPERATOR 5 #>,
   FUNCTION 1 semver_compare(semver, semver), FUNCTION 2 semver_precedence_sortsupport(internal);
+-- Bounds compare by precedence, so an index of this class answers which versions match, too.
+ALTER OPERATOR FAMILY semver_precedence_ops USING btree ADD
+  OPERATOR 1 < (semver, semver_bound), OPERATOR 2 <= (semver, semver_bound), OPERATOR 3 = (semver, semver_bound),
+  OPERATOR 4 >= (semver, semver_bound), OPERATOR 5 > (semver, semver_bound), FUNCTION 1 semver_cmp(semver, semver_bound),
+  OPERATOR 1 < (semver_bound, semver), OPERATOR 2 <= (semver_bound, semver), OPERATOR 3 = (semver_bound, semver),
+  OPERATOR 4 >= (semver_bound, semver), OPERATOR 5 > (semver_bound, semver), FUNCTION 1 semver_cmp(semver_bound, semver),
+  OPERATOR 1 < (semver_bound, semver_bound), OPERATOR 2 <= (semver_bound, semver_bound), OPERATOR 3 = (semver_bound, semver_bound),
+  OPERATOR 4 >= (semver_bound, semver_bound), OPERATOR 5 > (semver_bound, semver_bound), FUNCTION 1 semver_cmp(semver_bound, semver_bound);
 CREATE OPERATOR CLASS semver_precedence_ops FOR TYPE semver USING hash AS
   OPERATOR 1 #=, FUNCTION 1 semver_precedence_hash(semver), FUNCTION 2 semver_precedence_hash_extended(semver, bigint);
 COMMENT ON OPERATOR #< (semver, semver) IS 'below by precedence, which ignores builds';

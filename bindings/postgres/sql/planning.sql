@@ -32,6 +32,15 @@ EXPLAIN (COSTS OFF) SELECT * FROM versions WHERE version::release <@ '1.2.3 || ^
 SET enable_seqscan = off;
 PREPARE within(semver) AS SELECT $1 <@ '1.2.3 || ^5.1';
 EXPLAIN (VERBOSE, COSTS OFF) EXECUTE within('1.2.3');
+-- an index by precedence
+CREATE TABLE by_precedence AS SELECT version FROM versions;
+CREATE INDEX ON by_precedence(version semver_precedence_ops);
+EXPLAIN (COSTS OFF) SELECT * FROM by_precedence WHERE version <@ '~1.2.0';
+EXPLAIN (COSTS OFF) SELECT * FROM by_precedence WHERE version <@ '1.2.3 || ^5.1';
+EXPLAIN (COSTS OFF) SELECT * FROM (VALUES ('^1.2'::semver_range)) d(range) JOIN by_precedence ON version <@ d.range;
+SELECT count(*) AS by_index FROM by_precedence WHERE version <@ '1.2.3 || ^5.1';
+SELECT count(*) AS by_order FROM versions WHERE version <@ '1.2.3 || ^5.1';
+DROP TABLE by_precedence;
 -- a partial index of a range with several alternatives
 CREATE INDEX of_two ON versions(package) WHERE version <@ '^1 || ^3';
 EXPLAIN (COSTS OFF) SELECT * FROM versions WHERE version <@ '^1 || ^3' AND package = 'p3';
