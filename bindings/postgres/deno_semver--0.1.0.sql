@@ -150,6 +150,12 @@ CREATE FUNCTION semver_gt(semver_bound, semver_bound) RETURNS boolean AS 'MODULE
 CREATE FUNCTION semver_cmp(semver_bound, semver_bound) RETURNS integer AS 'MODULE_PATHNAME', 'deno_semver_bound_cmp'
   LANGUAGE C IMMUTABLE STRICT PARALLEL SAFE;
 
+-- How many rows the planner expects beside a bound.
+CREATE FUNCTION semver_bound_ltsel(internal, oid, internal, integer) RETURNS double precision AS 'MODULE_PATHNAME', 'deno_semver_bound_ltsel'
+  LANGUAGE C STABLE STRICT PARALLEL SAFE;
+CREATE FUNCTION semver_bound_gtsel(internal, oid, internal, integer) RETURNS double precision AS 'MODULE_PATHNAME', 'deno_semver_bound_gtsel'
+  LANGUAGE C STABLE STRICT PARALLEL SAFE;
+
 CREATE OPERATOR < (LEFTARG = semver, RIGHTARG = semver, FUNCTION = semver_lt, COMMUTATOR = >, NEGATOR = >=, RESTRICT = scalarltsel, JOIN = scalarltjoinsel);
 CREATE OPERATOR <= (LEFTARG = semver, RIGHTARG = semver, FUNCTION = semver_le, COMMUTATOR = >=, NEGATOR = >, RESTRICT = scalarlesel, JOIN = scalarlejoinsel);
 CREATE OPERATOR = (LEFTARG = semver, RIGHTARG = semver, FUNCTION = semver_eq, COMMUTATOR = =, NEGATOR = <>, RESTRICT = eqsel, JOIN = eqjoinsel, HASHES, MERGES);
@@ -157,18 +163,18 @@ CREATE OPERATOR >= (LEFTARG = semver, RIGHTARG = semver, FUNCTION = semver_ge, C
 CREATE OPERATOR > (LEFTARG = semver, RIGHTARG = semver, FUNCTION = semver_gt, COMMUTATOR = <, NEGATOR = <=, RESTRICT = scalargtsel, JOIN = scalargtjoinsel);
 CREATE OPERATOR <> (LEFTARG = semver, RIGHTARG = semver, FUNCTION = semver_ne, COMMUTATOR = <>, NEGATOR = =, RESTRICT = neqsel, JOIN = neqjoinsel);
 
-CREATE OPERATOR < (LEFTARG = semver, RIGHTARG = semver_bound, FUNCTION = semver_lt, COMMUTATOR = >, NEGATOR = >=, RESTRICT = scalarltsel, JOIN = scalarltjoinsel);
-CREATE OPERATOR <= (LEFTARG = semver, RIGHTARG = semver_bound, FUNCTION = semver_le, COMMUTATOR = >=, NEGATOR = >, RESTRICT = scalarlesel, JOIN = scalarlejoinsel);
+CREATE OPERATOR < (LEFTARG = semver, RIGHTARG = semver_bound, FUNCTION = semver_lt, COMMUTATOR = >, NEGATOR = >=, RESTRICT = semver_bound_ltsel, JOIN = scalarltjoinsel);
+CREATE OPERATOR <= (LEFTARG = semver, RIGHTARG = semver_bound, FUNCTION = semver_le, COMMUTATOR = >=, NEGATOR = >, RESTRICT = semver_bound_ltsel, JOIN = scalarlejoinsel);
 CREATE OPERATOR = (LEFTARG = semver, RIGHTARG = semver_bound, FUNCTION = semver_eq, COMMUTATOR = =, NEGATOR = <>, RESTRICT = eqsel, JOIN = eqjoinsel, MERGES);
-CREATE OPERATOR >= (LEFTARG = semver, RIGHTARG = semver_bound, FUNCTION = semver_ge, COMMUTATOR = <=, NEGATOR = <, RESTRICT = scalargesel, JOIN = scalargejoinsel);
-CREATE OPERATOR > (LEFTARG = semver, RIGHTARG = semver_bound, FUNCTION = semver_gt, COMMUTATOR = <, NEGATOR = <=, RESTRICT = scalargtsel, JOIN = scalargtjoinsel);
+CREATE OPERATOR >= (LEFTARG = semver, RIGHTARG = semver_bound, FUNCTION = semver_ge, COMMUTATOR = <=, NEGATOR = <, RESTRICT = semver_bound_gtsel, JOIN = scalargejoinsel);
+CREATE OPERATOR > (LEFTARG = semver, RIGHTARG = semver_bound, FUNCTION = semver_gt, COMMUTATOR = <, NEGATOR = <=, RESTRICT = semver_bound_gtsel, JOIN = scalargtjoinsel);
 CREATE OPERATOR <> (LEFTARG = semver, RIGHTARG = semver_bound, FUNCTION = semver_ne, COMMUTATOR = <>, NEGATOR = =, RESTRICT = neqsel, JOIN = neqjoinsel);
 
-CREATE OPERATOR < (LEFTARG = semver_bound, RIGHTARG = semver, FUNCTION = semver_lt, COMMUTATOR = >, NEGATOR = >=, RESTRICT = scalarltsel, JOIN = scalarltjoinsel);
-CREATE OPERATOR <= (LEFTARG = semver_bound, RIGHTARG = semver, FUNCTION = semver_le, COMMUTATOR = >=, NEGATOR = >, RESTRICT = scalarlesel, JOIN = scalarlejoinsel);
+CREATE OPERATOR < (LEFTARG = semver_bound, RIGHTARG = semver, FUNCTION = semver_lt, COMMUTATOR = >, NEGATOR = >=, RESTRICT = semver_bound_ltsel, JOIN = scalarltjoinsel);
+CREATE OPERATOR <= (LEFTARG = semver_bound, RIGHTARG = semver, FUNCTION = semver_le, COMMUTATOR = >=, NEGATOR = >, RESTRICT = semver_bound_ltsel, JOIN = scalarlejoinsel);
 CREATE OPERATOR = (LEFTARG = semver_bound, RIGHTARG = semver, FUNCTION = semver_eq, COMMUTATOR = =, NEGATOR = <>, RESTRICT = eqsel, JOIN = eqjoinsel, MERGES);
-CREATE OPERATOR >= (LEFTARG = semver_bound, RIGHTARG = semver, FUNCTION = semver_ge, COMMUTATOR = <=, NEGATOR = <, RESTRICT = scalargesel, JOIN = scalargejoinsel);
-CREATE OPERATOR > (LEFTARG = semver_bound, RIGHTARG = semver, FUNCTION = semver_gt, COMMUTATOR = <, NEGATOR = <=, RESTRICT = scalargtsel, JOIN = scalargtjoinsel);
+CREATE OPERATOR >= (LEFTARG = semver_bound, RIGHTARG = semver, FUNCTION = semver_ge, COMMUTATOR = <=, NEGATOR = <, RESTRICT = semver_bound_gtsel, JOIN = scalargejoinsel);
+CREATE OPERATOR > (LEFTARG = semver_bound, RIGHTARG = semver, FUNCTION = semver_gt, COMMUTATOR = <, NEGATOR = <=, RESTRICT = semver_bound_gtsel, JOIN = scalargtjoinsel);
 CREATE OPERATOR <> (LEFTARG = semver_bound, RIGHTARG = semver, FUNCTION = semver_ne, COMMUTATOR = <>, NEGATOR = =, RESTRICT = neqsel, JOIN = neqjoinsel);
 
 CREATE OPERATOR < (LEFTARG = semver_bound, RIGHTARG = semver_bound, FUNCTION = semver_lt, COMMUTATOR = >, NEGATOR = >=, RESTRICT = scalarltsel, JOIN = scalarltjoinsel);
@@ -309,11 +315,14 @@ CREATE FUNCTION semver_contains(semver_range, semver) RETURNS boolean AS 'MODULE
   LANGUAGE C IMMUTABLE STRICT PARALLEL SAFE SUPPORT semver_support;
 CREATE FUNCTION semver_is_within(semver, semver_range) RETURNS boolean AS 'MODULE_PATHNAME', 'deno_semver_within'
   LANGUAGE C IMMUTABLE STRICT PARALLEL SAFE SUPPORT semver_is_within_support;
+-- How many rows the planner expects of both operators.
+CREATE FUNCTION semver_within_sel(internal, oid, internal, integer) RETURNS double precision AS 'MODULE_PATHNAME', 'deno_semver_within_sel'
+  LANGUAGE C STABLE STRICT PARALLEL SAFE;
 CREATE OPERATOR <@ (
-  LEFTARG = semver, RIGHTARG = semver_range, FUNCTION = semver_within, COMMUTATOR = @>, RESTRICT = matchingsel, JOIN = matchingjoinsel
+  LEFTARG = semver, RIGHTARG = semver_range, FUNCTION = semver_within, COMMUTATOR = @>, RESTRICT = semver_within_sel, JOIN = matchingjoinsel
 );
 CREATE OPERATOR @> (
-  LEFTARG = semver_range, RIGHTARG = semver, FUNCTION = semver_contains, COMMUTATOR = <@, RESTRICT = matchingsel, JOIN = matchingjoinsel
+  LEFTARG = semver_range, RIGHTARG = semver, FUNCTION = semver_contains, COMMUTATOR = <@, RESTRICT = semver_within_sel, JOIN = matchingjoinsel
 );
 COMMENT ON OPERATOR <@ (semver, semver_range) IS 'the version matches the range';
 COMMENT ON OPERATOR @> (semver_range, semver) IS 'the range matches the version';

@@ -96,7 +96,8 @@ extern uint32_t sv_grammar(const text *name);
 /*
  * semver: the sort key, a zero byte, and the version as displayed.
  * semver_bound: a key, or the bound of a scan, and a zero byte.  It stands below
- * each version of the same key.
+ * each version of the same key.  In a plan the other bound of the scan, and a
+ * zero byte, may follow; no comparison reads it.
  *
  * A zero byte is below each byte of a key, so keys compare by memcmp with the
  * zero byte behind them.
@@ -104,7 +105,8 @@ extern uint32_t sv_grammar(const text *name);
 extern sv_string sv_key(const struct varlena *stored);
 extern sv_string sv_version_string(const struct varlena *version);
 extern bool sv_is_pre(sv_string key);
-extern struct varlena *sv_bound(const char *key);
+extern struct varlena *sv_bound(const char *key, const char *other);
+extern const char *sv_other_bound(const struct varlena *bound);
 
 /*
  * semver_range: its scans, its text and its canonical form; range.c says how
@@ -121,6 +123,8 @@ typedef struct
 extern sv_scans sv_scans_of(const struct varlena *range);
 extern const char *sv_low(const sv_scans *scans, uint32_t index);
 extern const char *sv_high(const sv_scans *scans, uint32_t index);
+extern bool sv_contains(const struct varlena *range,
+						const struct varlena *version);
 extern void sv_hull(const struct varlena *range, const char **low,
 					const char **high);
 

@@ -34,8 +34,8 @@ typedef struct
  * is.  Who asks needs no rights there.
  */
 
-static Oid
-type_of(Oid function, const char *name)
+Oid
+sv_type_of(Oid function, const char *name)
 {
 	return GetSysCacheOid2(TYPENAMENSP, Anum_pg_type_oid,
 						   CStringGetDatum(name),
@@ -64,10 +64,10 @@ operator_of(Oid function, const char *name, Oid left, Oid right)
 /* ---- clauses */
 
 static Node *
-bound_of(Oid type, const char *key)
+bound_of(Oid type, const char *key, const char *other)
 {
 	return (Node *) makeConst(type, -1, InvalidOid, -1,
-							  PointerGetDatum(sv_bound(key)), false, false);
+							  PointerGetDatum(sv_bound(key, other)), false, false);
 }
 
 static Node *
@@ -124,7 +124,7 @@ index_clauses(SupportRequestIndexCondition *request)
 	range = list_nth(arguments, 1 - request->indexarg);
 	version_type = exprType(version);
 	range_type = exprType(range);
-	bound = type_of(request->funcid, "semver_bound");
+	bound = sv_type_of(request->funcid, "semver_bound");
 	from = get_opfamily_member(request->opfamily, version_type, bound,
 							   BTGreaterEqualStrategyNumber);
 	below = get_opfamily_member(request->opfamily, version_type, bound,
@@ -139,8 +139,8 @@ index_clauses(SupportRequestIndexCondition *request)
 		if (((Const *) range)->constisnull)
 			return NIL;
 		sv_hull(range_of(range), &lowest, &highest);
-		low = bound_of(bound, lowest);
-		high = bound_of(bound, highest);
+		low = bound_of(bound, lowest, highest);
+		high = bound_of(bound, highest, lowest);
 	}
 	else
 	{
@@ -241,8 +241,8 @@ simplify(const FuncExpr *within)
 
 	if (list_length(within->args) != 2)
 		return NULL;
-	types[0] = type_of(within->funcid, "semver");
-	types[1] = type_of(within->funcid, "semver_range");
+	types[0] = sv_type_of(within->funcid, "semver");
+	types[1] = sv_type_of(within->funcid, "semver_range");
 	is_first = exprType(linitial(within->args)) == types[0];
 	version = list_nth(within->args, is_first ? 0 : 1);
 	range = list_nth(within->args, is_first ? 1 : 0);
@@ -252,7 +252,7 @@ simplify(const FuncExpr *within)
 	count = pieces_of(range_of(range), pieces);
 	if (count < 2)
 		return NULL;
-	bound = type_of(within->funcid, "semver_bound");
+	bound = sv_type_of(within->funcid, "semver_bound");
 	from = operator_of(within->funcid, ">=", types[0], bound);
 	below = operator_of(within->funcid, "<", types[0], bound);
 	is_within = function_of(within->funcid, "semver_is_within", types, 2);
@@ -261,9 +261,9 @@ simplify(const FuncExpr *within)
 	for (int n = 0; n < count; n++)
 	{
 		Node	   *low = compare(from, copyObject(version),
-								  bound_of(bound, pieces[n].low));
+								  bound_of(bound, pieces[n].low, pieces[n].high));
 		Node	   *high = compare(below, copyObject(version),
-								   bound_of(bound, pieces[n].high));
+								   bound_of(bound, pieces[n].high, pieces[n].low));
 
 		any = lappend(any, make_andclause(list_make2(low, high)));
 	}

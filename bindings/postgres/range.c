@@ -332,8 +332,8 @@ has_key(const sv_scans *scans, uint32_t from, uint32_t to, const char *key)
 	return from > first && strcmp(key, sv_high(scans, from - 1)) < 0;
 }
 
-static bool
-contains(const struct varlena *range, const struct varlena *version)
+bool
+sv_contains(const struct varlena *range, const struct varlena *version)
 {
 	sv_scans	scans = sv_scans_of(range);
 	sv_string	key = sv_key(version);
@@ -366,14 +366,14 @@ PG_FUNCTION_INFO_V1(deno_semver_within);
 Datum
 deno_semver_within(PG_FUNCTION_ARGS)
 {
-	PG_RETURN_BOOL(contains(PG_GETARG_VARLENA_PP(1), PG_GETARG_VARLENA_PP(0)));
+	PG_RETURN_BOOL(sv_contains(PG_GETARG_VARLENA_PP(1), PG_GETARG_VARLENA_PP(0)));
 }
 
 PG_FUNCTION_INFO_V1(deno_semver_contains);
 Datum
 deno_semver_contains(PG_FUNCTION_ARGS)
 {
-	PG_RETURN_BOOL(contains(PG_GETARG_VARLENA_PP(0), PG_GETARG_VARLENA_PP(1)));
+	PG_RETURN_BOOL(sv_contains(PG_GETARG_VARLENA_PP(0), PG_GETARG_VARLENA_PP(1)));
 }
 
 PG_FUNCTION_INFO_V1(deno_semver_range_low);
@@ -384,7 +384,7 @@ deno_semver_range_low(PG_FUNCTION_ARGS)
 	const char *high;
 
 	sv_hull(PG_GETARG_VARLENA_PP(0), &low, &high);
-	PG_RETURN_POINTER(sv_bound(low));
+	PG_RETURN_POINTER(sv_bound(low, NULL));
 }
 
 PG_FUNCTION_INFO_V1(deno_semver_range_high);
@@ -395,7 +395,7 @@ deno_semver_range_high(PG_FUNCTION_ARGS)
 	const char *high;
 
 	sv_hull(PG_GETARG_VARLENA_PP(0), &low, &high);
-	PG_RETURN_POINTER(sv_bound(high));
+	PG_RETURN_POINTER(sv_bound(high, NULL));
 }
 
 static Datum

@@ -100,15 +100,28 @@ read_version(Node *context, sv_string version)
 	return made;
 }
 
+/* Makes a bound; with another one, which may be NULL, for estimates. */
 struct varlena *
-sv_bound(const char *key)
+sv_bound(const char *key, const char *other)
 {
 	size_t		size = strlen(key) + 1;
-	struct varlena *bound = palloc(VARHDRSZ + size);
+	size_t		of_other = other != NULL ? strlen(other) + 1 : 0;
+	struct varlena *bound = palloc(VARHDRSZ + size + of_other);
 
-	SET_VARSIZE(bound, VARHDRSZ + size);
+	SET_VARSIZE(bound, VARHDRSZ + size + of_other);
 	memcpy(VARDATA(bound), key, size);
+	if (other != NULL)
+		memcpy(VARDATA(bound) + size, other, of_other);
 	return bound;
+}
+
+/* The other end of a bound's interval, or NULL if it has none. */
+const char *
+sv_other_bound(const struct varlena *bound)
+{
+	sv_string	other = sv_version_string(bound);
+
+	return other.len > 0 && other.at[other.len - 1] == 0 ? other.at : NULL;
 }
 
 /*
@@ -125,7 +138,7 @@ read_bound(Node *context, const char *bound)
 		sv_reject_bound(context, bound);
 		return NULL;
 	}
-	return sv_bound(bound);
+	return sv_bound(bound, NULL);
 }
 
 /* ---- input and output */

@@ -57,6 +57,58 @@ SELECT tableoid::regclass, * FROM parted WHERE version <@ '2.5 || =3.0.0';
 EXPLAIN (COSTS OFF) SELECT * FROM parted WHERE version <@ '^3';
 DROP TABLE parted;
 SET enable_seqscan = off;
+-- how many rows are expected, and how many there are: within one bin of the histogram, too
+RESET enable_seqscan;
+CREATE TABLE many(version semver) WITH (autovacuum_enabled = off);
+INSERT INTO many SELECT (n / 10000 || '.' || n / 100 % 100 || '.' || n % 100 || CASE n % 10 WHEN 0 THEN '-rc.1' ELSE '' END)::semver FROM generate_series(0, 19999) n;
+INSERT INTO many SELECT '1.2.3' FROM generate_series(1, 500) n;
+INSERT INTO many SELECT NULL FROM generate_series(1, 500) n;
+ANALYZE many;
+CREATE FUNCTION rows_of(query text) RETURNS float8[] LANGUAGE plpgsql AS $$
+DECLARE plan json;
+BEGIN
+  EXECUTE 'EXPLAIN (ANALYZE, TIMING OFF, FORMAT JSON) SELECT * FROM many WHERE ' || query INTO plan;
+  RETURN ARRAY[plan->0->'Plan'->>'Plan Rows', plan->0->'Plan'->>'Actual Rows'];
+END $$;
+CREATE FUNCTION is_near(found float8[]) RETURNS boolean LANGUAGE sql AS 'SELECT found[1] BETWEEN found[2] / 2 - 5 AND found[2] * 2 + 5';
+SELECT condition, is_near(found), CASE WHEN NOT is_near(found) THEN found END AS found
+  FROM unnest(ARRAY[$$version <@ '^1'$$, $$version <@ '~1.40.0'$$, $$version <@ '>=1.40.10 <1.40.30'$$, $$version <@ '>=0.9.50 <0.10.50'$$, $$'1.40.11' @> version$$,
+    $$version <@ '1.2.3'$$, $$version <@ '~1.2'$$, $$version <@ '1.40.x || 0.3.5 - 0.3.25'$$, $$version <@ '1.40.11 || 0.3.5'$$, $$version <@ '>=1.40.10-rc.1 <1.40.11'$$,
+    $$version <@ '*'$$, $$version <@ '>=3'$$, $$version <@ NULL$$, $$version >= 'A1A9A0~'::semver_bound$$, $$version < 'A1A9A0~'::semver_bound$$,
+    $$'A1A9A0~'::semver_bound <= version$$, $$'A1A9A0~'::semver_bound > version$$, $$version < NULL::semver_bound$$]) condition, LATERAL rows_of(condition) found;
+SET client_min_messages = error;
+SELECT rows_of('version <@ ''<0.0.0''');
+RESET client_min_messages;
+-- versions of one release, which differ behind the numbers
+CREATE TABLE canaries AS SELECT ('0.0.1-canary.' || n)::semver AS version FROM generate_series(1000, 20999) n;
+ANALYZE canaries;
+ALTER TABLE many RENAME TO others;
+ALTER TABLE canaries RENAME TO many;
+SELECT condition, is_near(found), CASE WHEN NOT is_near(found) THEN found END AS found
+  FROM unnest(ARRAY[$$version <@ '>=0.0.1-canary.4000 <0.0.1-canary.4020'$$, $$version < semver_range_low('>=0.0.1-canary.4000')$$]) condition,
+    LATERAL rows_of(condition) found;
+DROP TABLE many;
+ALTER TABLE others RENAME TO many;
+-- the same by the index, whose bounds know each other
+CREATE INDEX ON many(version);
+SET enable_seqscan = off;
+SELECT condition, is_near(found)
+  FROM unnest(ARRAY[$$version <@ '~1.40.0'$$, $$version <@ '1.40.x || 0.3.5 - 0.3.25'$$, $$version <@ '1.40.11 || 0.3.5'$$]) condition, LATERAL rows_of(condition) found;
+-- without statistics, and of what isn't known
+CREATE TABLE unknown(version semver, range semver_range) WITH (autovacuum_enabled = off);
+INSERT INTO unknown SELECT version, '1' FROM many;
+CREATE FUNCTION expected(condition text) RETURNS float8 LANGUAGE plpgsql AS $$
+DECLARE plan json;
+BEGIN
+  EXECUTE 'EXPLAIN (FORMAT JSON) SELECT * FROM unknown WHERE ' || condition INTO plan;
+  RETURN round((plan->0->'Plan'->>'Plan Rows')::numeric, -1);
+END $$;
+ANALYZE unknown(range);
+SELECT condition, expected(condition)
+  FROM unnest(ARRAY[$$version <@ '1.40.x'$$, $$version <@ range$$, $$range @> '2.0.0'$$, $$range @> '1.0.0'$$, $$version < semver_range_high(range)$$,
+    $$version < 'A1A9A0~'::semver_bound$$]) condition;
+DROP FUNCTION rows_of, is_near, expected;
+DROP TABLE many, unknown;
 -- by each way the same rows
 CREATE TABLE ranges(r semver_range);
 INSERT INTO ranges VALUES ('1.2.3 || ^5.1'), ('^1 || ^3'), ('~1.2.0'), ('*'), ('>=1.2.0-a.1 <1.2.5 || 6.x'), ('>3'), ('<0.0.0'), ('<=2.1.1-a.3');
