@@ -168,6 +168,8 @@ sqlite() {
     "$out/rows" "$out/mod_deno_semver.so" "$here/sqlite/rows.txt"
     python3 "$here/sqlite/check.py" "$out/mod_deno_semver.so"
     resolves 3 sqlite3 :memory: ".load $out/mod_deno_semver" ".read $here/../examples/resolve.sqlite.sql"
+    rm -f "$out/page.db"
+    "$here/page.py" SQLite sqlite3 -cmd ".load $out/mod_deno_semver" "$out/page.db"
 }
 
 # PostgreSQL's extension, in a server of its own.

@@ -11,8 +11,10 @@ postgres=$(cd "$(dirname "$0")" && pwd)
 library=$(cd "$1" && pwd)
 . "$postgres/server.sh"
 
-query() { # DATABASE SQL
-    "$bin/psql" -XqAt -v ON_ERROR_STOP=1 -d "$1" -c "$2"
+query() { # DATABASE SQL [-c SQL]..
+    asked_of=$1
+    shift
+    "$bin/psql" -XqAt -v ON_ERROR_STOP=1 -d "$asked_of" -c "$@"
 }
 
 expect() { # WANTED DATABASE SQL
@@ -143,6 +145,12 @@ limit() {
     echo 'deno_semver.max_length = 400' >>"$root/data/postgresql.conf"
     run as_owner "$bin/pg_ctl" -D "$root/data" -w restart -o "-k $PGHOST -c listen_addresses= -c fsync=off -c autovacuum=off"
     expect 306 stored "$long"
+    # A setting of ALTER SYSTEM waits for a reload.
+    query stored "load 'deno_semver'" -c 'alter system set deno_semver.max_length = 500'
+    expect 400 stored "load 'deno_semver'; show deno_semver.max_length"
+    query stored 'select pg_reload_conf()' >/dev/null
+    query stored 'select pg_sleep(1)' >/dev/null
+    expect 500 stored "load 'deno_semver'; show deno_semver.max_length"
 }
 
 # The example, whose lines are those of other languages.
@@ -150,6 +158,14 @@ resolve() {
     head -n 3 "$postgres/../../examples/resolved.txt" >"$root/wanted"
     "$bin/psql" -XqAt -v ON_ERROR_STOP=1 -d stored <"$postgres/../../examples/resolve.postgres.sql" | diff "$root/wanted" - ||
         fail 'the example has another answer'
+}
+
+# The examples of docs/DATABASES.md.
+page() {
+    query postgres 'create database page'
+    query page 'create extension deno_semver'
+    python3 "$postgres/../page.py" PostgreSQL "$bin/psql" -Xq -d page
+    query postgres 'drop database page'
 }
 
 # ---- a session that is asked one question after another
@@ -238,5 +254,6 @@ upgrade
 limit
 python3 "$postgres/check.py" "$bin/psql"
 resolve
+page
 run_out
 repeat

@@ -41,6 +41,18 @@ EXPLAIN (COSTS OFF) SELECT * FROM (VALUES ('^1.2'::semver_range)) d(range) JOIN 
 SELECT count(*) AS by_index FROM by_precedence WHERE version <@ '1.2.3 || ^5.1';
 SELECT count(*) AS by_order FROM versions WHERE version <@ '1.2.3 || ^5.1';
 DROP TABLE by_precedence;
+-- more than 16 intervals, which are one scan
+SELECT string_agg('0.' || n || '.1', ' || ') AS sixteen, string_agg('0.' || n || '.1', ' || ') || ' || 0.17.1' AS more FROM generate_series(1, 16) n \gset
+CREATE FUNCTION scans_of(range semver_range) RETURNS bigint LANGUAGE plpgsql AS $$
+DECLARE step text; count bigint = 0;
+BEGIN
+  FOR step IN EXECUTE format('EXPLAIN (COSTS OFF) SELECT * FROM versions WHERE version <@ %L', range) LOOP
+    count = count + (step LIKE '%Index Scan%')::int;
+  END LOOP;
+  RETURN count;
+END $$;
+SELECT scans_of(:'sixteen') AS sixteen, scans_of(:'more') AS more;
+DROP FUNCTION scans_of;
 -- a partial index of a range with several alternatives
 CREATE INDEX of_two ON versions(package) WHERE version <@ '^1 || ^3';
 EXPLAIN (COSTS OFF) SELECT * FROM versions WHERE version <@ '^1 || ^3' AND package = 'p3';
