@@ -49,3 +49,9 @@ SELECT * FROM texts UNION ALL SELECT * FROM varchars ORDER BY 1;
 SELECT semver_try('1.2.3'::varchar), '1.2.3'::varchar::semver, '1.2.3'::semver::varchar;
 -- binary
 SELECT semver_send('1.2.3-a+b'), semver_range_send('^1.2');
+-- all has a comment, and may be called in parallel
+SELECT pg_describe_object(classid, objid, 0) AS without_comment FROM pg_depend
+  WHERE refclassid = 'pg_extension'::regclass AND refobjid = (SELECT oid FROM pg_extension WHERE extname = 'deno_semver') AND deptype = 'e'
+    AND classid IN ('pg_proc'::regclass, 'pg_operator'::regclass, 'pg_type'::regclass, 'pg_opclass'::regclass)
+    AND obj_description(objid, classid::regclass::name) IS NULL AND NOT EXISTS (SELECT FROM pg_type WHERE typarray = objid OR (oid = objid AND typname LIKE '\_%')) ORDER BY 1;
+SELECT oid::regprocedure AS not_parallel FROM pg_proc WHERE proname LIKE 'semver%' AND (proparallel <> 's' OR NOT proisstrict);
