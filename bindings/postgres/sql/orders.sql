@@ -22,3 +22,11 @@ SET enable_mergejoin = on;
 SET enable_hashjoin = off;
 SELECT count(*) FROM unnest('{1.0.0, 1.0.0+a, 2.0.0}'::semver[]) v JOIN unnest('{1.0.0+a, 2.0.0, 2.0.0}'::semver[]) w ON v = w;
 RESET ALL;
+-- partitions by hash
+CREATE TABLE hashed(version semver PRIMARY KEY) PARTITION BY HASH (version);
+CREATE TABLE hashed_0 PARTITION OF hashed FOR VALUES WITH (MODULUS 2, REMAINDER 0);
+CREATE TABLE hashed_1 PARTITION OF hashed FOR VALUES WITH (MODULUS 2, REMAINDER 1);
+INSERT INTO hashed SELECT ('1.0.' || n || '+' || n % 3)::semver FROM generate_series(1, 100) n;
+SELECT count(DISTINCT tableoid) AS partitions, count(*) FROM hashed;
+SELECT * FROM hashed WHERE version = 'v1.0.7+1';
+DROP TABLE hashed;
