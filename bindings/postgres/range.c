@@ -18,6 +18,7 @@
 #include "funcapi.h"
 #include "lib/stringinfo.h"
 #include "libpq/pqformat.h"
+#include "miscadmin.h"
 #include "utils/builtins.h"
 #include "utils/timestamp.h"
 #include "utils/tuplestore.h"
@@ -272,7 +273,7 @@ deno_semver_range_out(PG_FUNCTION_ARGS)
 {
 	const char *string = text_of(PG_GETARG_VARLENA_PP(0));
 
-	PG_RETURN_CSTRING(pstrdup(sv_server(string, strlen(string))));
+	PG_RETURN_CSTRING(unconstify(char *, sv_server(string, strlen(string))));
 }
 
 PG_FUNCTION_INFO_V1(deno_semver_range_recv);
@@ -351,14 +352,25 @@ void
 sv_hull(const struct varlena *range, const char **low, const char **high)
 {
 	sv_scans	scans = sv_scans_of(range);
+	uint32_t	first[2] = {0, scans.releases};
+	uint32_t	end[2] = {scans.releases, scans.count};
 
+	/* The scans of each kind ascend. */
 	*low = *high = "";
-	for (uint32_t n = 0; n < scans.count; n++)
+	for (int kind = 0; kind < 2; kind++)
 	{
-		if (n == 0 || strcmp(sv_low(&scans, n), *low) < 0)
-			*low = sv_low(&scans, n);
-		if (n == 0 || strcmp(sv_high(&scans, n), *high) > 0)
-			*high = sv_high(&scans, n);
+		const char *lowest;
+		const char *highest;
+
+		if (first[kind] == end[kind])
+			continue;
+		lowest = sv_low(&scans, first[kind]);
+		highest = sv_high(&scans, end[kind] - 1);
+		/* No bound of a scan is empty, so the first kind is taken. */
+		if (**low == 0 || strcmp(lowest, *low) < 0)
+			*low = lowest;
+		if (strcmp(highest, *high) > 0)
+			*high = highest;
 	}
 }
 
@@ -410,6 +422,7 @@ put_scans(FunctionCallInfo fcinfo, const struct varlena *range)
 		Datum		row[3];
 		bool		nulls[3] = {false, false, false};
 
+		CHECK_FOR_INTERRUPTS();
 		row[0] = BoolGetDatum(n >= scans.releases);
 		row[1] = CStringGetTextDatum(sv_low(&scans, n));
 		row[2] = CStringGetTextDatum(sv_high(&scans, n));
