@@ -11,8 +11,6 @@
 #ifndef DENO_SEMVER_H
 #define DENO_SEMVER_H
 
-#include "postgres.h"
-
 #include "fmgr.h"
 #include "nodes/nodes.h"
 #if PG_VERSION_NUM >= 160000

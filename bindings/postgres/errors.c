@@ -3,6 +3,8 @@
  * errors.c
  *		Strings and errors.
  */
+#include "postgres.h"
+
 #include "deno_semver.h"
 
 #include "catalog/namespace.h"

@@ -8,6 +8,8 @@
  * Of others it takes half of the bin below each bound, which leaves nothing
  * between two bounds in one bin.  Here the numbers of the keys are interpolated.
  */
+#include "postgres.h"
+
 #include "deno_semver.h"
 
 #include <ctype.h>
@@ -15,7 +17,6 @@
 
 #include "access/htup_details.h"
 #include "catalog/pg_statistic.h"
-#include "nodes/nodeFuncs.h"
 #include "nodes/pathnodes.h"
 #include "utils/lsyscache.h"
 #include "utils/selfuncs.h"
@@ -56,15 +57,20 @@ read_strings(const char *strings[3], double numbers[3])
 
 	for (int n = 0; n < 3; n++)
 		numbers[n] = 0;
-	for (int at = 0; strings[0][at] != 0 && strings[1][at] != 0 && strings[2][at] != 0; at++)
+	for (int at = 0;; at++)
 	{
-		bool		are_digits = true;
+		int			base = 10;
 
 		for (int n = 0; n < 3; n++)
-			are_digits = are_digits && isdigit((unsigned char) strings[n][at]);
-		place /= are_digits ? 10 : '~' - ' ';
+		{
+			if (strings[n][at] == 0)
+				return;
+			if (!isdigit((unsigned char) strings[n][at]))
+				base = '~' - ' ';
+		}
+		place /= base;
 		for (int n = 0; n < 3; n++)
-			numbers[n] += place * (strings[n][at] - (are_digits ? '0' : ' '));
+			numbers[n] += place * (strings[n][at] - (base == 10 ? '0' : ' '));
 	}
 }
 
@@ -247,6 +253,26 @@ at_least_one(const statistics *it, double share)
 
 /* ---- of a constant range */
 
+static bool
+is_null(const Node *it)
+{
+	return IsA(it, Const) && ((const Const *) it)->constisnull;
+}
+
+/* Whether it is a constant of this type of the extension. */
+static bool
+is_constant(const Node *it, Oid operator, const char *type)
+{
+	return IsA(it, Const) &&
+		((const Const *) it)->consttype == sv_type_of(get_opcode(operator), type);
+}
+
+static struct varlena *
+value_of(const Node *constant)
+{
+	return PG_DETOAST_DATUM_PACKED(((const Const *) constant)->constvalue);
+}
+
 static double
 matching(const statistics *it, const struct varlena *range)
 {
@@ -285,13 +311,12 @@ deno_semver_within_sel(PG_FUNCTION_ARGS)
 	if (get_restriction_variable(root, arguments, relation, &column, &other,
 								 &is_left))
 	{
-		if (IsA(other, Const) && ((Const *) other)->constisnull)
+		if (is_null(other))
 			share = 0;
-		else if (IsA(other, Const) &&
-				 exprType(other) == sv_type_of(get_opcode(operator), "semver_range") &&
+		else if (is_constant(other, operator, "semver_range") &&
 				 read_statistics(&column, &read))
 		{
-			share = matching(&read, PG_DETOAST_DATUM_PACKED(((Const *) other)->constvalue));
+			share = matching(&read, value_of(other));
 			free_statistics(&read);
 		}
 		ReleaseVariableStats(column);
@@ -350,6 +375,7 @@ static Datum
 bound_sel(FunctionCallInfo fcinfo, bool is_low)
 {
 	PlannerInfo *root = (PlannerInfo *) PG_GETARG_POINTER(0);
+	Oid			operator = PG_GETARG_OID(1);
 	List	   *arguments = (List *) PG_GETARG_POINTER(2);
 	VariableStatData column;
 	Node	   *other;
@@ -361,13 +387,10 @@ bound_sel(FunctionCallInfo fcinfo, bool is_low)
 	if (!get_restriction_variable(root, arguments, PG_GETARG_INT32(3), &column,
 								  &other, &is_left))
 		PG_RETURN_FLOAT8(share);
-	if (IsA(other, Const) && ((Const *) other)->constisnull)
+	if (is_null(other))
 		share = 0;
-	else if (IsA(other, Const) &&
-			 exprType(other) == sv_type_of(get_opcode(PG_GETARG_OID(1)), "semver_bound"))
-		share = beside_bound(&column,
-							 PG_DETOAST_DATUM_PACKED(((Const *) other)->constvalue),
-							 is_low == is_left);
+	else if (is_constant(other, operator, "semver_bound"))
+		share = beside_bound(&column, value_of(other), is_low == is_left);
 	ReleaseVariableStats(column);
 	PG_RETURN_FLOAT8(share);
 }

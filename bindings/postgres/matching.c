@@ -4,6 +4,8 @@
  *		semver_matches: whether a version, also one that is text, matches a
  *		range, by any grammar.
  */
+#include "postgres.h"
+
 #include "deno_semver.h"
 
 #include "nodes/primnodes.h"

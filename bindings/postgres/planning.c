@@ -4,6 +4,8 @@
  *		What the planner is told of `version <@ range`: between which bounds an
  *		index is scanned.
  */
+#include "postgres.h"
+
 #include "deno_semver.h"
 
 #include "access/stratnum.h"

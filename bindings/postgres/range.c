@@ -11,6 +11,8 @@
  * the text.  So whether a version matches needs no parser, and the scans of its
  * kind are searched by halves.
  */
+#include "postgres.h"
+
 #include "deno_semver.h"
 
 #include "access/xact.h"

@@ -3,6 +3,8 @@
  * version.c
  *		The type semver, bounds of scans, and their orders.
  */
+#include "postgres.h"
+
 #include "deno_semver.h"
 
 #include "common/hashfn.h"
