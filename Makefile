@@ -26,7 +26,7 @@ STRIPPED := out/ranges out/npmver
 SQLITE := $(shell $(CC) -E -include sqlite3ext.h -x c /dev/null >/dev/null 2>&1 && echo $(OUT)/mod_deno_semver.so)
 LIBRARIES = $(OUT)/$(SONAME) $(OUT)/libdeno_semver.a $(OUT)/deno_semver.pc $(SQLITE)
 
-.PHONY: all libraries x86_64 aarch64 try test dist install uninstall version help mostlyclean clean tools
+.PHONY: all libraries x86_64 aarch64 try test dist pgxn install uninstall version help mostlyclean clean tools
 
 all: tools $(STRIPPED) libraries
 
@@ -38,6 +38,7 @@ help:
 	@echo 'make try          one answer within two minutes, without the proof'
 	@echo 'make test         the whole gate: every proof and every test'
 	@echo 'make dist         a release in out/dist: sources, tarballs, a Debian package, a wheel, a crate, an npm package, checksums'
+	@echo 'make pgxn         the PostgreSQL extension for PGXN, a zip in out'
 	@echo 'make install      install below PREFIX (/usr/local), the libraries in LIBDIR (PREFIX/lib), within DESTDIR if it is set'
 	@echo 'make uninstall    remove what make install put there'
 	@echo 'make version      print the version'
@@ -114,6 +115,9 @@ x86_64 aarch64: %: out/%/ranges.o out/%/npmver.o out/%/libsemver_c.a
 
 dist:
 	@VERSION='$(VERSION)' ARCHES='$(ARCHES)' GATE='$(GATE)' STATIC='$(STATIC)' DIST='$(DIST)' CC='$(CC)' AR='$(AR)' packaging/dist.sh
+
+pgxn:
+	@packaging/pgxn.py $(OUT)
 
 install:
 	@PREFIX='$(PREFIX)' LIBDIR='$(LIBDIR)' DESTDIR='$(DESTDIR)' packaging/install.sh --check

@@ -66,6 +66,22 @@ regress() {
     done
 }
 
+# The distribution for PGXN has what builds, installs and tests the extension. pkg-config finds the C library.
+distribution() {
+    run python3 "$postgres/../../packaging/pgxn.py" "$root"
+    run python3 -m zipfile -e "$root"/deno_semver-*.zip "$root"
+    folder=$(echo "$root"/deno_semver-*/)
+    mkdir "$root/pkgconfig"
+    sed "s|@PREFIX@|$library|; s|@LIBDIR@|$library/lib|; s|@VERSION@|0|" "$postgres/../../packaging/deno_semver.pc.in" >"$root/pkgconfig/deno_semver.pc"
+    PKG_CONFIG_PATH=$root/pkgconfig run make -s -C "$folder" DESTDIR="$root" install
+    cmp "$folder/deno_semver.so" "$root$(pg_config --pkglibdir)/deno_semver.so"
+    query postgres "create database contrib_regression template template0 locale 'C' locale_provider libc"
+    PGOPTIONS= make -s -C "$folder" installcheck EXTRA_REGRESS_OPTS="--bindir=$bin --use-existing" >"$root/regress.log" 2>&1 ||
+        fail "$(cat "$root/regress.log" "$folder/regression.diffs")"
+    query postgres 'drop database contrib_regression'
+    echo "PostgreSQL: built, installed and tested from $(basename "$root"/deno_semver-*.zip)"
+}
+
 # Bytes that have no UTF-8 are no version, and no error.
 without_utf8() {
     query postgres "create database odd template template0 locale 'C' locale_provider libc encoding 'WIN1252'"
@@ -245,6 +261,7 @@ installs_from_elsewhere
 initialize
 start -c autovacuum=off
 regress
+distribution
 without_utf8
 store
 dump
