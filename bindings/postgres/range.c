@@ -471,6 +471,16 @@ deno_semver_canonical(PG_FUNCTION_ARGS)
 
 /* ---- the order of ranges, which is the library's */
 
+/* What is stored was a range when it was stored. */
+static void
+check_parsed(int32_t code)
+{
+	if (code == SEMVER_NO_MEMORY)
+		sv_reject_memory();
+	if (code != SEMVER_YES)
+		sv_reject_stored("semver_range");
+}
+
 /* The order of two ranges, or 0 with a code. */
 static int
 order_of_texts(const char *one, const char *other, int32_t *code)
@@ -503,10 +513,7 @@ by_range(const struct varlena *one, const struct varlena *other)
 	if (strcmp(a, b) == 0)
 		return 0;
 	is = order_of_texts(a, b, &code);
-	if (code == SEMVER_NO_MEMORY)
-		sv_reject_memory();
-	if (code != SEMVER_YES)
-		sv_reject_stored("semver_range");
+	check_parsed(code);
 	return is;
 }
 
@@ -592,10 +599,7 @@ parse(SortSupport support, const char *string, const parsed_range *other)
 		pfree(it->string);
 	it->string = NULL;
 	code = semver_req_read(SEMVER_NPM, string, len, &it->req, none, 0, &needed);
-	if (code == SEMVER_NO_MEMORY)
-		sv_reject_memory();
-	if (code != SEMVER_YES)
-		sv_reject_stored("semver_range");
+	check_parsed(code);
 	it->has_number = false;
 	it->string = MemoryContextStrdup(support->ssup_cxt, string);
 	return it;
@@ -647,8 +651,7 @@ number_of_start(const char *json)
 	version += strlen(VERSION);
 	SV_WRITES(code, &key, semver_key(version, strcspn(version, "\""),
 									 SV_OUT(&key)));
-	if (code != SEMVER_YES)
-		sv_reject_memory();
+	check_parsed(code);
 	number = PG_UINT64_MAX - sv_first_bytes(sv_string_of(key.at, key.len));
 	sv_end(&key);
 	return number;
@@ -665,8 +668,7 @@ number_of(const char *string)
 
 	SV_WRITES(code, &written, semver_ranges(SEMVER_NPM, string, strlen(string),
 											SV_OUT(&written)));
-	if (code != SEMVER_YES)
-		sv_reject_memory();
+	check_parsed(code);
 	json = pnstrdup(written.at, written.len);
 	number = number_of_start(json);
 	pfree(json);

@@ -231,26 +231,30 @@ run_out() {
     echo "PostgreSQL: out of memory $((growth / 256 - 1)) times, $failed in the library, and then an answer"
 }
 
-# Ten million calls, ranges that are compared, and errors that are caught, in one session, whose memory may grow by four megabytes.
+# Ten million calls, ranges that are compared and sorted, and errors that are caught, in one session, whose memory may grow by four megabytes.
 repeat() {
     session stored -v ON_ERROR_STOP=1
     # PostgreSQL keeps what a series returns, so a long one is many short ones.
     calls="select sum(count) from generate_series(1, %s), lateral (select count(*) from generate_series(1, 100000) n where semver_matches(case n %% 2 when 0 then '^1' else '>=1.2.3-a' end, '1.2.3') and '1.2.3-a+b'::text::semver > '1.2.3-a') c"
     ranges="select count(*) from generate_series(1, %s) n where ('^' || n)::semver_range < '>=0.1' and ('^' || n)::semver_range = ('>=' || n || '.0.0 <' || n + 1)::semver_range"
     errors="do \$\$ declare n int; begin for n in 1..%s loop begin perform ('1.2.3.' || n)::semver; exception when others then null; end; begin perform ('^1.2.3.' || n)::semver_range; exception when others then null; end; begin perform semver_matches('^1.2.3.' || n, '1.2.3'); exception when others then null; end; end loop; end \$\$; select 1"
+    sorts="select count(*) from generate_series(1, %s) n, lateral (select count(*) from (select ('^' || m || '.' || n)::semver_range as r from generate_series(1, 100) m order by r offset 0) s) c where count = 100"
     tell "$(printf "$calls;" 2)"
     tell "$(printf "$ranges;" 20000)"
+    tell "$(printf "$sorts;" 2000)"
     tell "$(printf "$errors;" 1000)"
     before=$(memory RssAnon)
     tell "$(printf "$calls;" 100)"
     [ "$answer" = 10000000 ] || fail "of ten million calls $answer match"
     tell "$(printf "$ranges;" 200000)"
     [ "$answer" = 200000 ] || fail "of 200,000 pairs of ranges $answer are ordered and equal"
+    tell "$(printf "$sorts;" 2000)"
+    [ "$answer" = 2000 ] || fail "of 2,000 sorts $answer have each range"
     tell "$(printf "$errors;" 50000)"
     grown=$(($(memory RssAnon) - before))
     end_session
     [ $grown -lt 4096 ] || fail "memory grows by $grown kB"
-    echo "PostgreSQL: ten million calls, 400,000 pairs of ranges and 150,000 errors, memory grows by $grown kB"
+    echo "PostgreSQL: ten million calls, 400,000 pairs of ranges, 2,000 sorts and 150,000 errors, memory grows by $grown kB"
 }
 
 trap stop EXIT
