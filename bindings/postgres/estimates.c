@@ -120,6 +120,13 @@ share_of_bin(const char *low, const char *key, const char *high)
 
 /* ---- statistics */
 
+typedef enum
+{
+	ANY_VERSION,
+	RELEASE,
+	PRE_RELEASE
+} version_kind;
+
 typedef struct
 {
 	AttStatsSlot common;		/* the most common versions */
@@ -208,13 +215,6 @@ share_below(const AttStatsSlot *histogram, const char *bound, int below)
  * releases, or pre-releases: as many as of its values there, or of all values
  * if there are few.
  */
-typedef enum
-{
-	ANY_VERSION,
-	RELEASE,
-	PRE_RELEASE
-} version_kind;
-
 static double
 share_between(const statistics *it, const char *low, const char *high,
 			  version_kind kind)
