@@ -168,8 +168,10 @@ sqlite() {
     "$out/rows" "$out/mod_deno_semver.so" "$here/sqlite/rows.txt"
     python3 "$here/sqlite/check.py" "$out/mod_deno_semver.so"
     resolves 3 sqlite3 :memory: ".load $out/mod_deno_semver" ".read $here/../examples/resolve.sqlite.sql"
-    rm -f "$out/page.db"
-    "$here/page.py" SQLite sqlite3 -cmd ".load $out/mod_deno_semver" "$out/page.db"
+    for section in SQLite "Other databases"; do
+        rm -f "$out/page.db"
+        "$here/page.py" "$section" sqlite3 -cmd ".load $out/mod_deno_semver" "$out/page.db"
+    done
 }
 
 # PostgreSQL's extension, in a server of its own.
