@@ -15,7 +15,14 @@
 #include "utils/jsonb.h"
 #include "utils/numeric.h"
 
+#ifdef PG_MODULE_MAGIC_EXT
+PG_MODULE_MAGIC_EXT(
+					.name = "deno_semver",
+					.version = SEMVER_VERSION
+);
+#else
 PG_MODULE_MAGIC;
+#endif
 
 /* PostgreSQL 15 has no soft errors. */
 #if PG_VERSION_NUM < 160000

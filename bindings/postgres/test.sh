@@ -108,6 +108,12 @@ store() {
     diff "$postgres/storage.out" "$root/stored" >&2 || fail 'storage.sql prints other rows (> printed, < wanted)'
 }
 
+# From PostgreSQL 18 on a library says what it is.
+name_library() {
+    [ "$(query postgres 'show server_version_num')" -lt 180000 ] ||
+        expect "deno_semver|$(query stored "$version")" stored "load 'deno_semver'; select module_name, version from pg_get_loaded_modules() where module_name = 'deno_semver'"
+}
+
 # What is dumped is restored, in text and in PostgreSQL's own format.
 dump() {
     for format in plain custom; do
@@ -268,6 +274,7 @@ regress
 distribution
 without_utf8
 store
+name_library
 dump
 update
 dump
