@@ -75,6 +75,7 @@ distribution() {
     sed "s|@PREFIX@|$library|; s|@LIBDIR@|$library/lib|; s|@VERSION@|0|" "$postgres/../../packaging/deno_semver.pc.in" >"$root/pkgconfig/deno_semver.pc"
     PKG_CONFIG_PATH=$root/pkgconfig run make -s -C "$folder" DESTDIR="$root" install
     cmp "$folder/deno_semver.so" "$root$(pg_config --pkglibdir)/deno_semver.so"
+    cmp "$folder/doc/deno_semver.md" "$root$(pg_config --docdir)/extension/deno_semver.md"
     query postgres "create database contrib_regression template template0 locale 'C' locale_provider libc"
     PGOPTIONS= make -s -C "$folder" installcheck EXTRA_REGRESS_OPTS="--bindir=$bin --use-existing" >"$root/regress.log" 2>&1 ||
         fail "$(cat "$root/regress.log" "$folder/regression.diffs")"
