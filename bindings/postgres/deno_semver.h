@@ -100,7 +100,22 @@ extern uint32_t sv_grammar(const text *name);
  * A zero byte is below each byte of a key, so keys compare by memcmp with the
  * zero byte behind them.
  */
-extern sv_string sv_key(const struct varlena *stored);
+
+/*
+ * The key of a version, or of a bound.  The bytes are those of the disk, or of
+ * who may cast to the type without a function.
+ */
+static inline sv_string
+sv_key(const struct varlena *stored)
+{
+	const char *at = VARDATA_ANY(stored);
+	const char *end = memchr(at, 0, VARSIZE_ANY_EXHDR(stored));
+
+	if (end == NULL)
+		sv_reject_stored("sort key");
+	return sv_string_of(at, end - at);
+}
+
 extern sv_string sv_version_string(const struct varlena *version);
 extern bool sv_is_pre(sv_string key);
 extern struct varlena *sv_bound(const char *key, const char *other);

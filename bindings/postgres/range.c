@@ -335,15 +335,16 @@ has_key(const sv_scans *scans, uint32_t from, uint32_t to, const char *key)
 	return from > first && strcmp(key, sv_high(scans, from - 1)) < 0;
 }
 
+/* Most versions are in no scan, so the kind is asked last. */
 bool
 sv_contains(const struct varlena *range, const struct varlena *version)
 {
 	sv_scans	scans = sv_scans_of(range);
 	sv_string	key = sv_key(version);
 
-	if (sv_is_pre(key))
-		return has_key(&scans, scans.releases, scans.count, key.at);
-	return has_key(&scans, 0, scans.releases, key.at);
+	if (has_key(&scans, 0, scans.releases, key.at) && !sv_is_pre(key))
+		return true;
+	return has_key(&scans, scans.releases, scans.count, key.at) && sv_is_pre(key);
 }
 
 /*

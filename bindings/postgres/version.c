@@ -16,21 +16,6 @@
 
 /* ---- what is stored */
 
-/*
- * The key of a version, or of a bound.  The bytes are those of the disk, or of
- * who may cast to the type without a function.
- */
-sv_string
-sv_key(const struct varlena *stored)
-{
-	const char *at = VARDATA_ANY(stored);
-	const char *end = memchr(at, 0, VARSIZE_ANY_EXHDR(stored));
-
-	if (end == NULL)
-		sv_reject_stored("sort key");
-	return sv_string_of(at, end - at);
-}
-
 sv_string
 sv_version_string(const struct varlena *version)
 {
