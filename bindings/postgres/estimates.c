@@ -142,16 +142,21 @@ key_at(const AttStatsSlot *slot, int index)
 	return sv_key(PG_DETOAST_DATUM_PACKED(slot->values[index]));
 }
 
-/* The statistics of a column of versions, if it has some. */
+/*
+ * The statistics of a column of versions, if it has some.  They are values of
+ * rows, so who may not read each row gets none, unless the operator is
+ * leakproof.
+ */
 static bool
-read_statistics(VariableStatData *column, statistics *it)
+read_statistics(VariableStatData *column, Oid operator, statistics *it)
 {
 	double		nulls;
 	double		common = 0;
 	double		distinct;
 	bool		is_default;
 
-	if (!HeapTupleIsValid(column->statsTuple))
+	if (!HeapTupleIsValid(column->statsTuple) ||
+		!statistic_proc_security_check(column, get_opcode(operator)))
 		return false;
 	nulls = ((Form_pg_statistic) GETSTRUCT(column->statsTuple))->stanullfrac;
 	get_attstatsslot(&it->common, column->statsTuple, STATISTIC_KIND_MCV,
@@ -314,7 +319,7 @@ deno_semver_within_sel(PG_FUNCTION_ARGS)
 		if (is_null(other))
 			share = 0;
 		else if (is_constant(other, operator, "semver_range") &&
-				 read_statistics(&column, &read))
+				 read_statistics(&column, operator, &read))
 		{
 			share = matching(&read, value_of(other));
 			free_statistics(&read);
@@ -351,7 +356,8 @@ between(const statistics *it, const char *low, const char *high)
  * between both, and the high one leaves it as it is.
  */
 static double
-beside_bound(VariableStatData *column, const struct varlena *bound, bool is_low)
+beside_bound(VariableStatData *column, Oid operator,
+			 const struct varlena *bound, bool is_low)
 {
 	const char *key = sv_key(bound).at;
 	const char *other = sv_other_bound(bound);
@@ -360,7 +366,7 @@ beside_bound(VariableStatData *column, const struct varlena *bound, bool is_low)
 
 	if (other != NULL && !is_low)
 		return 1;
-	if (!read_statistics(column, &read))
+	if (!read_statistics(column, operator, &read))
 		return other != NULL ? DEFAULT_MATCHING_SEL : DEFAULT_INEQ_SEL;
 	if (is_low)
 		share = between(&read, key, other != NULL ? other : "\x7F");
@@ -390,7 +396,8 @@ bound_sel(FunctionCallInfo fcinfo, bool is_low)
 	if (is_null(other))
 		share = 0;
 	else if (is_constant(other, operator, "semver_bound"))
-		share = beside_bound(&column, value_of(other), is_low == is_left);
+		share = beside_bound(&column, operator, value_of(other),
+							 is_low == is_left);
 	ReleaseVariableStats(column);
 	PG_RETURN_FLOAT8(share);
 }

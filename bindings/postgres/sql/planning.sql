@@ -121,6 +121,36 @@ SELECT condition, expected(condition)
     $$version < 'A1A9A0~'::semver_bound$$]) condition;
 DROP FUNCTION rows_of, is_near, expected;
 DROP TABLE many, unknown;
+-- who may not read each row learns nothing of the others: of a version that is hidden as many rows are expected as of one that isn't there
+CREATE TABLE secret(tenant text, version semver) WITH (autovacuum_enabled = off);
+INSERT INTO secret SELECT 'regress_tenant', ('1.' || n % 100 || '.0')::semver FROM generate_series(1, 5000) n;
+INSERT INTO secret SELECT 'other', '4.13.37-acme' FROM generate_series(1, 5000) n;
+INSERT INTO secret SELECT 'other', ('9.' || n || '.0')::semver FROM generate_series(1, 5000) n;
+ANALYZE secret;
+CREATE ROLE regress_tenant;
+GRANT SELECT ON secret TO regress_tenant;
+ALTER TABLE secret ENABLE ROW LEVEL SECURITY;
+CREATE POLICY own ON secret USING (tenant = current_user);
+CREATE FUNCTION expected(condition text) RETURNS float8 LANGUAGE plpgsql AS $$
+DECLARE plan json;
+BEGIN
+  EXECUTE 'EXPLAIN (FORMAT JSON) SELECT * FROM secret WHERE ' || condition INTO plan;
+  RETURN plan->0->'Plan'->>'Plan Rows';
+END $$;
+CREATE FUNCTION tells(hidden text, absent text) RETURNS boolean LANGUAGE sql AS 'SELECT expected(hidden) <> expected(absent)';
+CREATE TABLE questions(hidden text, absent text);
+INSERT INTO questions VALUES ($$version <@ '4.13.37-acme'$$, $$version <@ '4.13.38-acme'$$), ($$'4.13.37-acme' @> version$$, $$'4.13.38-acme' @> version$$),
+  ($$version <@ '9'$$, $$version <@ '8'$$), ($$version <@ '4.13.37-acme || 9'$$, $$version <@ '4.13.38-acme || 8'$$),
+  ($$NOT version <@ '4.13.37-acme || 9'$$, $$NOT version <@ '4.13.38-acme || 8'$$), ($$version >= semver_range_low('9')$$, $$version >= semver_range_low('10')$$),
+  ($$semver_range_high('4') > version$$, $$semver_range_high('0') > version$$);
+GRANT SELECT ON questions TO regress_tenant;
+SELECT hidden, absent, tells(hidden, absent) FROM questions;
+SET ROLE regress_tenant;
+SELECT hidden, absent, tells(hidden, absent) FROM questions;
+RESET ROLE;
+DROP FUNCTION tells, expected;
+DROP TABLE secret, questions;
+DROP ROLE regress_tenant;
 -- by each way the same rows
 CREATE TABLE ranges(r semver_range);
 INSERT INTO ranges VALUES ('1.2.3 || ^5.1'), ('^1 || ^3'), ('~1.2.0'), ('*'), ('>=1.2.0-a.1 <1.2.5 || 6.x'), ('>3'), ('<0.0.0'), ('<=2.1.1-a.3');
