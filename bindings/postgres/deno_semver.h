@@ -95,7 +95,7 @@ extern uint32_t sv_grammar(const text *name);
  * semver: the sort key, a zero byte, and the version as displayed.
  * semver_bound: a key, or the bound of a scan, and a zero byte.  It stands below
  * each version of the same key.  In a plan the other bound of the scan, and a
- * zero byte, may follow; no comparison reads it.
+ * zero byte, may follow, and then the range; no comparison reads them.
  *
  * A zero byte is below each byte of a key, so keys compare by memcmp with the
  * zero byte behind them.
@@ -118,8 +118,10 @@ sv_key(const struct varlena *stored)
 
 extern sv_string sv_version_string(const struct varlena *version);
 extern bool sv_is_pre(sv_string key);
-extern struct varlena *sv_bound(const char *key, const char *other);
+extern struct varlena *sv_bound(const char *key, const char *other,
+								const struct varlena *range);
 extern const char *sv_other_bound(const struct varlena *bound);
+extern struct varlena *sv_range_of_bound(const struct varlena *bound);
 
 /*
  * semver_range: its scans, its text and its canonical form; range.c says how

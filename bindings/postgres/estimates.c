@@ -132,7 +132,8 @@ typedef struct
 	AttStatsSlot common;		/* the most common versions */
 	AttStatsSlot histogram;		/* of the others; none if there are no values */
 	int		   *releases;		/* how many of its first values are releases */
-	double		others;			/* the share of rows with other versions */
+	double		nulls;			/* the share of rows without a version */
+	double		others;			/* with other versions than those */
 	double		each;			/* and with one of them */
 } statistics;
 
@@ -150,7 +151,6 @@ key_at(const AttStatsSlot *slot, int index)
 static bool
 read_statistics(VariableStatData *column, Oid operator, statistics *it)
 {
-	double		nulls;
 	double		common = 0;
 	double		distinct;
 	bool		is_default;
@@ -158,14 +158,14 @@ read_statistics(VariableStatData *column, Oid operator, statistics *it)
 	if (!HeapTupleIsValid(column->statsTuple) ||
 		!statistic_proc_security_check(column, get_opcode(operator)))
 		return false;
-	nulls = ((Form_pg_statistic) GETSTRUCT(column->statsTuple))->stanullfrac;
+	it->nulls = ((Form_pg_statistic) GETSTRUCT(column->statsTuple))->stanullfrac;
 	get_attstatsslot(&it->common, column->statsTuple, STATISTIC_KIND_MCV,
 					 InvalidOid, ATTSTATSSLOT_VALUES | ATTSTATSSLOT_NUMBERS);
 	get_attstatsslot(&it->histogram, column->statsTuple,
 					 STATISTIC_KIND_HISTOGRAM, InvalidOid, ATTSTATSSLOT_VALUES);
 	for (int n = 0; n < it->common.nnumbers; n++)
 		common += it->common.numbers[n];
-	it->others = 1 - nulls - common;
+	it->others = 1 - it->nulls - common;
 	CLAMP_PROBABILITY(it->others);
 	distinct = get_variable_numdistinct(column, &is_default) - it->common.nvalues;
 	it->each = it->others / Max(distinct, 1);
@@ -352,6 +352,32 @@ between(const statistics *it, const char *low, const char *high)
 }
 
 /*
+ * Of NOT version <@ range, which has each piece's bounds with the other
+ * operators: version < low OR version >= high.  The bound that has the range has
+ * the share of what doesn't match.  The other low ones leave it as it is, and
+ * the high ones add nothing.
+ */
+static double
+beside_negated(VariableStatData *column, Oid operator,
+			   const struct varlena *bound, bool is_low)
+{
+	struct varlena *range;
+	statistics	read;
+	double		share;
+
+	if (is_low)
+		return 0;
+	range = sv_range_of_bound(bound);
+	if (range == NULL)
+		return 1;
+	if (!read_statistics(column, operator, &read))
+		return 1 - DEFAULT_MATCHING_SEL;
+	share = at_least_one(&read, 1 - read.nulls - matching(&read, range));
+	free_statistics(&read);
+	return share;
+}
+
+/*
  * Two bounds of a plan know each other: the low one has the share of what is
  * between both, and the high one leaves it as it is.
  */
@@ -364,6 +390,8 @@ beside_bound(VariableStatData *column, Oid operator,
 	statistics	read;
 	double		share;
 
+	if (other != NULL && (is_low ? strcmp(key, other) > 0 : strcmp(key, other) < 0))
+		return beside_negated(column, operator, bound, is_low);
 	if (other != NULL && !is_low)
 		return 1;
 	if (!read_statistics(column, operator, &read))

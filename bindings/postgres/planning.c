@@ -66,10 +66,12 @@ operator_of(Oid function, const char *name, Oid left, Oid right)
 /* ---- clauses */
 
 static Node *
-bound_of(Oid type, const char *key, const char *other)
+bound_of(Oid type, const char *key, const char *other,
+		 const struct varlena *range)
 {
 	return (Node *) makeConst(type, -1, InvalidOid, -1,
-							  PointerGetDatum(sv_bound(key, other)), false, false);
+							  PointerGetDatum(sv_bound(key, other, range)),
+							  false, false);
 }
 
 static Node *
@@ -141,8 +143,8 @@ index_clauses(SupportRequestIndexCondition *request)
 		if (((Const *) range)->constisnull)
 			return NIL;
 		sv_hull(range_of(range), &lowest, &highest);
-		low = bound_of(bound, lowest, highest);
-		high = bound_of(bound, highest, lowest);
+		low = bound_of(bound, lowest, highest, NULL);
+		high = bound_of(bound, highest, lowest, NULL);
 	}
 	else
 	{
@@ -225,6 +227,9 @@ is_column(const Node *it)
  *
  * Then the planner may scan an index for each piece, or, for an order, from the
  * first piece to the last.
+ *
+ * The planner moves a NOT down to each operator later, which leaves it no share
+ * of the whole.  So the low bound of the last piece has the range.
  */
 static Node *
 simplify(const FuncExpr *within)
@@ -263,9 +268,11 @@ simplify(const FuncExpr *within)
 	for (int n = 0; n < count; n++)
 	{
 		Node	   *low = compare(from, copyObject(version),
-								  bound_of(bound, pieces[n].low, pieces[n].high));
+								  bound_of(bound, pieces[n].low, pieces[n].high,
+										   n + 1 == count ? range_of(range) : NULL));
 		Node	   *high = compare(below, copyObject(version),
-								   bound_of(bound, pieces[n].high, pieces[n].low));
+								   bound_of(bound, pieces[n].high, pieces[n].low,
+											NULL));
 
 		any = lappend(any, make_andclause(list_make2(low, high)));
 	}

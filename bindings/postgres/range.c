@@ -399,7 +399,7 @@ deno_semver_range_low(PG_FUNCTION_ARGS)
 	const char *high;
 
 	sv_hull(PG_GETARG_VARLENA_PP(0), &low, &high);
-	PG_RETURN_POINTER(sv_bound(low, NULL));
+	PG_RETURN_POINTER(sv_bound(low, NULL, NULL));
 }
 
 PG_FUNCTION_INFO_V1(deno_semver_range_high);
@@ -410,7 +410,7 @@ deno_semver_range_high(PG_FUNCTION_ARGS)
 	const char *high;
 
 	sv_hull(PG_GETARG_VARLENA_PP(0), &low, &high);
-	PG_RETURN_POINTER(sv_bound(high, NULL));
+	PG_RETURN_POINTER(sv_bound(high, NULL, NULL));
 }
 
 static Datum

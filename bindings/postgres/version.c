@@ -87,18 +87,24 @@ read_version(Node *context, sv_string version)
 	return made;
 }
 
-/* Makes a bound; with another one, which may be NULL, for estimates. */
+/*
+ * Makes a bound; for estimates with the other end of its interval, and with the
+ * range.  Both may be NULL; with a range there is another end.
+ */
 struct varlena *
-sv_bound(const char *key, const char *other)
+sv_bound(const char *key, const char *other, const struct varlena *range)
 {
 	size_t		size = strlen(key) + 1;
 	size_t		of_other = other != NULL ? strlen(other) + 1 : 0;
-	struct varlena *bound = palloc(VARHDRSZ + size + of_other);
+	size_t		of_range = range != NULL ? VARSIZE_ANY_EXHDR(range) : 0;
+	struct varlena *bound = palloc(VARHDRSZ + size + of_other + of_range);
 
-	SET_VARSIZE(bound, VARHDRSZ + size + of_other);
+	SET_VARSIZE(bound, VARHDRSZ + size + of_other + of_range);
 	memcpy(VARDATA(bound), key, size);
 	if (other != NULL)
 		memcpy(VARDATA(bound) + size, other, of_other);
+	if (range != NULL)
+		memcpy(VARDATA(bound) + size + of_other, VARDATA_ANY(range), of_range);
 	return bound;
 }
 
@@ -109,6 +115,23 @@ sv_other_bound(const struct varlena *bound)
 	sv_string	other = sv_version_string(bound);
 
 	return other.len > 0 && other.at[other.len - 1] == 0 ? other.at : NULL;
+}
+
+/* A copy of the range of a bound, or NULL if it has none. */
+struct varlena *
+sv_range_of_bound(const struct varlena *bound)
+{
+	sv_string	rest = sv_version_string(bound);
+	const char *end = memchr(rest.at, 0, rest.len);
+	size_t		before = end != NULL ? end - rest.at + 1 : rest.len;
+	struct varlena *range;
+
+	if (before == rest.len)
+		return NULL;
+	range = palloc(VARHDRSZ + rest.len - before);
+	SET_VARSIZE(range, VARHDRSZ + rest.len - before);
+	memcpy(VARDATA(range), rest.at + before, rest.len - before);
+	return range;
 }
 
 /*
@@ -125,7 +148,7 @@ read_bound(Node *context, const char *bound)
 		sv_reject_bound(context, bound);
 		return NULL;
 	}
-	return sv_bound(bound, NULL);
+	return sv_bound(bound, NULL, NULL);
 }
 
 /* ---- input and output */

@@ -100,6 +100,19 @@ SELECT condition, is_near(found), CASE WHEN NOT is_near(found) THEN found END AS
   FROM unnest(ARRAY[$$version <@ '>=0.0.1-canary.4000 <0.0.1-canary.4020'$$, $$version < semver_range_low('>=0.0.1-canary.4000')$$]) condition,
     LATERAL rows_of(condition) found;
 DROP TABLE many;
+-- what doesn't match, also of several intervals, which the planner has as NOT of each bound
+CREATE TABLE many AS SELECT (n / 2000 || '.' || n / 20 % 100 || '.' || n % 20)::semver AS version FROM generate_series(0, 19999) n;
+INSERT INTO many SELECT NULL FROM generate_series(1, 5000) n;
+ANALYZE many;
+SELECT condition, is_near(found), CASE WHEN NOT is_near(found) THEN found END AS found
+  FROM unnest(ARRAY[$$NOT version <@ '^1'$$, $$NOT version <@ '1 || 3 || 5 || 7 || 9'$$, $$NOT '1 || 3 || 5 || 7 || 9' @> version$$, $$NOT version <@ '<9.50 || 9.51 - 10'$$,
+    $$NOT version <@ '<5 || 6 - 10'$$, $$(version <@ '1 || 3') = false$$, $$(version <@ '1 || 3') IS NOT TRUE$$, $$NOT version <@ '1 || 3' AND version <@ '^3 || 4'$$,
+    $$NOT (version <@ '1 || 3' OR version <@ '5 || 7')$$, $$NOT NOT version <@ '1 || 3'$$]) condition, LATERAL rows_of(condition) found;
+UPDATE many SET version = (version || '-rc.1')::semver WHERE (split_part(version::text, '.', 2)::int + split_part(version::text, '.', 3)::int) % 7 = 3;
+ANALYZE many;
+SELECT condition, is_near(found), CASE WHEN NOT is_near(found) THEN found END AS found
+  FROM unnest(ARRAY[$$NOT version <@ '<9.50 || 9.51 - 10'$$, $$NOT version <@ '<3.5 || >=3.6'$$]) condition, LATERAL rows_of(condition) found;
+DROP TABLE many;
 ALTER TABLE others RENAME TO many;
 -- the same by the index, whose bounds know each other
 CREATE INDEX ON many(version);
@@ -118,7 +131,7 @@ END $$;
 ANALYZE unknown(range);
 SELECT condition, expected(condition)
   FROM unnest(ARRAY[$$version <@ '1.40.x'$$, $$version <@ range$$, $$range @> '2.0.0'$$, $$range @> '1.0.0'$$, $$version < semver_range_high(range)$$,
-    $$version < 'A1A9A0~'::semver_bound$$]) condition;
+    $$version < 'A1A9A0~'::semver_bound$$, $$NOT version <@ '1.40.x || 3'$$]) condition;
 DROP FUNCTION rows_of, is_near, expected;
 DROP TABLE many, unknown;
 -- who may not read each row learns nothing of the others: of a version that is hidden as many rows are expected as of one that isn't there
