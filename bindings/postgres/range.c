@@ -15,6 +15,7 @@
 
 #include "deno_semver.h"
 
+#include "access/parallel.h"
 #include "access/xact.h"
 #include "common/hashfn.h"
 #include "funcapi.h"
@@ -235,8 +236,9 @@ read_range(Node *context, uint32_t grammar, uint32_t pre_releases,
 
 /*
  * A range that matches nothing is probably a mistake: of `^1.2.3.4 || ^1.2.3.`
- * both alternatives are invalid, and so left out.  Who types one is told so,
- * once a statement, so a dump is restored with one for each table.
+ * both alternatives are invalid, and so left out.  Who types one is told so, at
+ * most once for each message of the client, so a dump is restored with one for
+ * each table.  Parallel workers have the message of their leader, which tells.
  */
 static void
 tell_of_nothing(const struct varlena *range)
@@ -245,7 +247,7 @@ tell_of_nothing(const struct varlena *range)
 	TimestampTz now = GetCurrentStatementStartTimestamp();
 	const char *string = text_of(range);
 
-	if (sv_scans_of(range).count > 0 || told == now)
+	if (sv_scans_of(range).count > 0 || told == now || IsParallelWorker())
 		return;
 	told = now;
 	ereport(WARNING,

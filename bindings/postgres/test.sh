@@ -1,8 +1,8 @@
 #!/bin/sh
 # Builds the extension over the C library, installs it into a copy of PostgreSQL below a temporary folder, and tests it in a server of its own,
-# which listens on a socket there and nowhere else: `make installcheck` in databases of three encodings, then what storage.sql asks, a dump that
-# is restored, an update to a next version, pg_upgrade, the setting, random matches (check.py), a session that runs out of memory, and calls by the million,
-# whose memory must stay. It stops at the first failure.
+# which listens on a socket there and nowhere else: `make installcheck` in databases of three encodings, and with parallel workers, then what
+# storage.sql asks, a dump that is restored, an update to a next version, pg_upgrade, the setting, random matches (check.py), a session that
+# runs out of memory, and calls by the million, whose memory must stay. It stops at the first failure.
 #
 # usage: test.sh FOLDER    FOLDER has lib/libdeno_semver.a and include/deno_semver/semver.h, as make install makes them; a server doesn't run as root, so then
 # it runs as the user postgres
@@ -54,16 +54,24 @@ bytes() {
         expect 'f|f' contrib_regression "select pg_input_is_valid(E'1.2.3\\xff', 'semver'), pg_input_is_valid(E'1.2.3\\xff', 'semver_range')"
 }
 
-# The files of sql/ in a database of each encoding.
+# The files of sql/ in a database of its own.
+files() { # ENCODING [OPTION.. of its sessions]
+    query postgres "create database contrib_regression template template0 locale 'C' encoding $1"
+    PGOPTIONS=$2 make -s -C "$root/extension" installcheck EXTRA_REGRESS_OPTS="--bindir=$bin --use-existing" >"$root/regress.log" 2>&1 ||
+        fail "$(cat "$root/regress.log" "$root/extension/regression.diffs")"
+    echo "PostgreSQL: $(grep -c '^ok\|\.\.\. ok' "$root/regress.log") files, encoding $1 $2"
+    case $1 in *SQL_ASCII*) bytes ;; esac
+    query postgres 'drop database contrib_regression'
+}
+
+# Those files in each encoding, and with parallel workers wherever a plan may have them.
 regress() {
-    for options in "'UTF8' locale_provider icu icu_locale 'en-US'" "'LATIN1' locale_provider libc" "'SQL_ASCII' locale_provider libc"; do
-        query postgres "create database contrib_regression template template0 locale 'C' encoding $options"
-        PGOPTIONS= make -s -C "$root/extension" installcheck EXTRA_REGRESS_OPTS="--bindir=$bin --use-existing" >"$root/regress.log" 2>&1 ||
-            fail "$(cat "$root/regress.log" "$root/extension/regression.diffs")"
-        echo "PostgreSQL: $(grep -c '^ok\|\.\.\. ok' "$root/regress.log") files, encoding $options"
-        case $options in *SQL_ASCII*) bytes ;; esac
-        query postgres 'drop database contrib_regression'
-    done
+    workers=debug_parallel_query
+    [ "$(query postgres 'show server_version_num')" -ge 160000 ] || workers=force_parallel_mode
+    files "'UTF8' locale_provider icu icu_locale 'en-US'"
+    files "'UTF8' locale_provider icu icu_locale 'en-US'" "-c $workers=regress"
+    files "'LATIN1' locale_provider libc"
+    files "'SQL_ASCII' locale_provider libc"
 }
 
 # The distribution for PGXN has what builds, installs and tests the extension. pkg-config finds the C library.
