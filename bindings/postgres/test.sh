@@ -32,16 +32,25 @@ exports_no_calls() {
     [ -z "$exported" ] || fail "the extension exports $exported"
 }
 
-# A build in another folder installs the same files, as packages of distributions are built, and is built anew over a newer library.
+# The distribution for PGXN, in $folder.
+unpack() {
+    run python3 "$postgres/../../packaging/pgxn.py" "$root"
+    run python3 -m zipfile -e "$root"/deno_semver-*.zip "$root"
+    folder=$(echo "$root"/deno_semver-*/)
+    folder=${folder%/}
+}
+
+# A build of it in another folder installs the same files, as packages of distributions are built, and is built anew over a newer library.
 installs_from_elsewhere() {
     mkdir "$root/elsewhere"
-    set -- make -s -C "$root/elsewhere" -f "$postgres/Makefile" DENO_SEMVER="$library" DESTDIR="$root/elsewhere/installed"
+    set -- make -s -C "$root/elsewhere" -f "$folder/Makefile" DENO_SEMVER="$library" DESTDIR="$root/elsewhere/installed"
     run "$@" install
     run "$@" -q all
     ! "$@" -q -W "$library/lib/libdeno_semver.a" all || fail 'nothing is built over a newer library'
     for file in "$postgres"/deno_semver*.control "$postgres"/deno_semver--*.sql; do
         cmp "$file" "$root/elsewhere/installed$(pg_config --sharedir)/extension/${file##*/}"
     done
+    cmp "$folder/doc/deno_semver.md" "$root/elsewhere/installed$(pg_config --docdir)/extension/deno_semver.md"
 }
 
 # A database in SQL_ASCII has any bytes.
@@ -74,11 +83,8 @@ regress() {
     files "'SQL_ASCII' locale_provider libc"
 }
 
-# The distribution for PGXN has what builds, installs and tests the extension. pkg-config finds the C library.
+# The distribution has what builds, installs and tests the extension. pkg-config finds the C library.
 distribution() {
-    run python3 "$postgres/../../packaging/pgxn.py" "$root"
-    run python3 -m zipfile -e "$root"/deno_semver-*.zip "$root"
-    folder=$(echo "$root"/deno_semver-*/)
     mkdir "$root/pkgconfig"
     sed "s|@PREFIX@|$library|; s|@LIBDIR@|$library/lib|; s|@VERSION@|0|" "$postgres/../../packaging/deno_semver.pc.in" >"$root/pkgconfig/deno_semver.pc"
     PKG_CONFIG_PATH=$root/pkgconfig run make -s -C "$folder" DESTDIR="$root" install
@@ -276,6 +282,7 @@ trap stop EXIT
 trap 'exit 1' INT TERM
 install
 exports_no_calls
+unpack
 installs_from_elsewhere
 initialize
 start -c autovacuum=off
