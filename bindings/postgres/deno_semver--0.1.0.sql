@@ -274,9 +274,9 @@ CREATE FUNCTION semver_range_lt(semver_range, semver_range) RETURNS boolean AS '
 CREATE FUNCTION semver_range_le(semver_range, semver_range) RETURNS boolean AS 'MODULE_PATHNAME', 'deno_semver_range_le'
   LANGUAGE C IMMUTABLE STRICT PARALLEL SAFE COST 10;
 CREATE FUNCTION semver_range_eq(semver_range, semver_range) RETURNS boolean AS 'MODULE_PATHNAME', 'deno_semver_range_eq'
-  LANGUAGE C IMMUTABLE STRICT PARALLEL SAFE;
+  LANGUAGE C IMMUTABLE STRICT PARALLEL SAFE COST 10;
 CREATE FUNCTION semver_range_ne(semver_range, semver_range) RETURNS boolean AS 'MODULE_PATHNAME', 'deno_semver_range_ne'
-  LANGUAGE C IMMUTABLE STRICT PARALLEL SAFE;
+  LANGUAGE C IMMUTABLE STRICT PARALLEL SAFE COST 10;
 CREATE FUNCTION semver_range_ge(semver_range, semver_range) RETURNS boolean AS 'MODULE_PATHNAME', 'deno_semver_range_ge'
   LANGUAGE C IMMUTABLE STRICT PARALLEL SAFE COST 10;
 CREATE FUNCTION semver_range_gt(semver_range, semver_range) RETURNS boolean AS 'MODULE_PATHNAME', 'deno_semver_range_gt'

@@ -3,6 +3,10 @@ SELECT a, b, a = b AS equal, a <> b AS differ, a < b AS below, a <= b AS at_or_b
     semver_range_hash(a) = semver_range_hash(b) AS hashes, semver_range_hash_extended(a, 1) = semver_range_hash_extended(b, 1) AS extended
   FROM (VALUES ('^1.2'::semver_range, '>=1.2.0 <2.0.0'::semver_range), ('1 || 2', '2 || 1'), ('>=2', '>=1'), ('<2', '<3'), ('*', ''), ('>1.0.0', '>=1.0.0'),
     ('~1.2.3 || 5', '>=1.2.3 <1.3.0||5.x'), ('1.2.3-a', '=1.2.3-a'), ('1.2.3+a', '1.2.3+b')) x(a, b);
+-- Each of their comparisons may parse both.
+SELECT amopopr::regoperator AS operator, procost FROM pg_amop JOIN pg_operator o ON o.oid = amopopr JOIN pg_proc p ON p.oid = oprcode
+  WHERE amoplefttype = 'semver_range'::regtype AND amopmethod = (SELECT oid FROM pg_am WHERE amname = 'btree') ORDER BY amopstrategy;
+SELECT procost FROM pg_proc WHERE oid = 'semver_range_ne'::regproc;
 SELECT r FROM unnest('{<2, ^1, >=2, *, 1.x, 1.2.3, "1 || 2", "2 || 1"}'::semver_range[]) r ORDER BY r, r::text COLLATE "C";
 SELECT ROW('^1'::semver_range) = ROW('1'::semver_range) AS rows_equal, '{^1}'::semver_range[] = '{1}'::semver_range[] AS arrays_equal;
 -- all pairs of comparators: each way to find equal ones counts as many
