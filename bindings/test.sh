@@ -167,6 +167,11 @@ sqlite() {
     compile -o "$out/rows" "$here/sqlite/rows.c" -lsqlite3 -ldl
     "$out/rows" "$out/mod_deno_semver.so" "$here/sqlite/rows.txt"
     python3 "$here/sqlite/check.py" "$out/mod_deno_semver.so"
+    # Of a range of a megabyte, which only SQLite's own limit rejects.
+    long="select semver_matches(replace(hex(zeroblob(100000)), '0', '1 || ') || '3', '3.0.0')"
+    [ "$(sqlite3 :memory: ".load $out/mod_deno_semver" "$long")" = 1 ] || { echo "SQLite: a long range has no answer" >&2; exit 1; }
+    ! sqlite3 :memory: ".load $out/mod_deno_semver" ".limit length 100000" "$long" >"$out/rejected" 2>&1 && grep -q "too big" "$out/rejected" ||
+        { echo "SQLite: a long range isn't rejected by SQLITE_LIMIT_LENGTH" >&2; exit 1; }
     resolves 3 sqlite3 :memory: ".load $out/mod_deno_semver" ".read $here/../examples/resolve.sqlite.sql"
     for section in SQLite "Other databases"; do
         rm -f "$out/page.db"
