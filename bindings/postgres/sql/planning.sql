@@ -17,6 +17,12 @@ EXPLAIN (COSTS OFF) SELECT * FROM (VALUES ('p3', '^1.2'::semver_range)) d(packag
 PREPARE matching(semver_range) AS SELECT count(*) FROM versions WHERE version <@ $1;
 SET plan_cache_mode = force_generic_plan;
 EXPLAIN (COSTS OFF) EXECUTE matching('^1 || ^3');
+-- the ranges of an array, for which no index on the version is scanned, and the same as one range
+SET enable_seqscan = on;
+EXPLAIN (COSTS OFF) SELECT count(*) FROM versions WHERE version <@ ANY ('{1.2.3, ^5.1}'::semver_range[]);
+SELECT count(*) FROM versions WHERE version <@ ANY ('{1.2.3, ^5.1}'::semver_range[]);
+SELECT count(*) FROM versions WHERE version <@ '1.2.3 || ^5.1';
+SET enable_seqscan = off;
 -- a column of a domain
 CREATE DOMAIN release AS semver CHECK (NOT semver_is_pre(VALUE));
 CREATE TABLE releases AS SELECT version::release AS version FROM versions WHERE NOT semver_is_pre(version);
