@@ -379,7 +379,8 @@ beside_negated(VariableStatData *column, Oid operator,
 
 /*
  * Two bounds of a plan know each other: the low one has the share of what is
- * between both, and the high one leaves it as it is.
+ * between both, and the high one leaves it as it is.  A low one that is asked as
+ * a high one is negated.
  */
 static double
 beside_bound(VariableStatData *column, Oid operator,
@@ -387,10 +388,11 @@ beside_bound(VariableStatData *column, Oid operator,
 {
 	const char *key = sv_key(bound).at;
 	const char *other = sv_other_bound(bound);
+	int			order = other != NULL ? strcmp(key, other) : 0;
 	statistics	read;
 	double		share;
 
-	if (other != NULL && (is_low ? strcmp(key, other) > 0 : strcmp(key, other) < 0))
+	if (is_low ? order > 0 : order < 0)
 		return beside_negated(column, operator, bound, is_low);
 	if (other != NULL && !is_low)
 		return 1;

@@ -228,8 +228,8 @@ is_column(const Node *it)
  * Then the planner may scan an index for each piece, or, for an order, from the
  * first piece to the last.
  *
- * The planner moves a NOT down to each operator later, which leaves it no share
- * of the whole.  So the low bound of the last piece has the range.
+ * Later the planner moves a NOT down to each operator, and none of them stands
+ * for the whole.  So the low bound of the last piece has the range, for estimates.
  */
 static Node *
 simplify(const FuncExpr *within)
@@ -267,9 +267,10 @@ simplify(const FuncExpr *within)
 		return NULL;
 	for (int n = 0; n < count; n++)
 	{
+		bool		is_last = n + 1 == count;
 		Node	   *low = compare(from, copyObject(version),
 								  bound_of(bound, pieces[n].low, pieces[n].high,
-										   n + 1 == count ? range_of(range) : NULL));
+										   is_last ? range_of(range) : NULL));
 		Node	   *high = compare(below, copyObject(version),
 								   bound_of(bound, pieces[n].high, pieces[n].low,
 											NULL));

@@ -68,7 +68,7 @@ files() { # ENCODING [OPTION.. of its sessions]
     query postgres "create database contrib_regression template template0 locale 'C' encoding $1"
     PGOPTIONS=$2 make -s -C "$root/extension" installcheck EXTRA_REGRESS_OPTS="--bindir=$bin --use-existing" >"$root/regress.log" 2>&1 ||
         fail "$(cat "$root/regress.log" "$root/extension/regression.diffs")"
-    echo "PostgreSQL: $(grep -c '^ok\|\.\.\. ok' "$root/regress.log") files, encoding $1 $2"
+    echo "PostgreSQL: $(grep -c '^ok\|\.\.\. ok' "$root/regress.log") files, encoding $1${2:+, with $2}"
     case $1 in *SQL_ASCII*) bytes ;; esac
     query postgres 'drop database contrib_regression'
 }
