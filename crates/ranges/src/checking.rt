@@ -475,7 +475,7 @@ fn check_entry<'e, O: Write, E: Write>(
         }
         Kind::Odd(message) => report.add(console, entry, Finding::by(Rule::OddEngine, message)),
         Kind::Mistake(message) => report.add(console, entry, Finding::new(Cause::Refused, message)),
-        Kind::Workspace | Kind::Level => Ok(()),
+        Kind::Workspace | Kind::ImportMap | Kind::Level => Ok(()),
     }
 }
 

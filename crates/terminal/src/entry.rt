@@ -42,7 +42,8 @@ impl Entry {
         let index = if written.len() == self.text.len() {
             index
         } else {
-            written_index(written, index)
+            let is_single = part(file, 0, self.start).ends_with('\'');
+            written_index(written, is_single, index)
         };
         self.start.saturating_add(index)
     }

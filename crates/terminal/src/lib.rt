@@ -2,6 +2,7 @@
 #![tactic(auto)]
 
 pub mod args;
+mod collecting;
 mod commented;
 pub mod console;
 pub mod entry;
@@ -13,6 +14,7 @@ mod json;
 pub mod manifest;
 pub mod npm;
 pub mod pointing;
+mod quoted;
 pub mod sections;
 pub mod shown;
 mod yaml;

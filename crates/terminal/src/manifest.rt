@@ -1,13 +1,13 @@
 //! What a file holds: the ranges of package.json, deno.json, import maps and plain lines.
 
+use crate::collecting::{Collector, Format, Shape};
 use crate::commented::without_comments;
 use crate::entry::Entry;
 use crate::json::error_place;
-use crate::sections::{ITEM, Kind, Place, place_of};
-use crate::yaml::entries_of_yaml;
+use crate::sections::Kind;
+use crate::yaml::{entries_of_yaml, without_comment};
 use serde_json::Value;
 use std::alloc::{AllocError, Global};
-use std::collections::HashSet;
 
 /// The text that JSON means by this part between two quotes.
 pub fn unescaped(alloc: Global, raw: &str) -> Result<String, AllocError> {
@@ -22,44 +22,12 @@ pub fn unescaped(alloc: Global, raw: &str) -> Result<String, AllocError> {
     }
 }
 
-// What is said of a value that begins with this character, where something else belongs. npm takes `null` for no engines.
-fn misplaced(c: char, place: Place, is_engines: bool) -> Option<Kind> {
-    let message = match place.text {
-        Some((Kind::Engine, _)) if c == 'n' => return None,
-        Some((Kind::Engine, _)) => {
-            return Some(Kind::Odd("not a string: no version satisfies it"));
-        }
-        Some((Kind::Version, _)) => "expected a string, such as \"1.2.3\"",
-        Some((Kind::Manager, _)) => "expected a string, such as \"npm@1.2.3\"",
-        Some((Kind::Level, _)) => "expected a string, such as \"off\"",
-        Some(_) => "expected a string, such as \"^1.2\"",
-        None if is_engines && c == 'n' => return None,
-        None if is_engines => {
-            return Some(Kind::Odd("not an object: package managers pass over it"));
-        }
-        None if place.has_object => "expected an object",
-        None => return None,
-    };
-    Some(Kind::Mistake(message))
-}
-
-// An object or an array that isn't closed.
-#[derive(Drop)]
-struct Open {
-    is_array: bool,
-    /// The keys so far, in an object on the way to ranges.
-    keys: Option<HashSet<String>>,
-}
-
-// Goes over JSON, and collects the values that hold ranges, and what is there in place of one.
+// Goes over JSON.
 #[derive(Drop)]
 struct Scanner<'t> {
     alloc: Global,
     file: &'t str,
-    open: Vec<Open>,
-    /// The keys on the way.
-    path: Vec<String>,
-    key: Option<String>,
+    collector: Collector,
     /// Whether a value comes next, or is read.
     is_value: bool,
     /// What the text is that is read, if it is collected.
@@ -67,101 +35,21 @@ struct Scanner<'t> {
     /// Where a text starts, behind its quote.
     text: Option<usize>,
     is_escaped: bool,
-    is_lockfile: bool,
-    entries: Vec<Entry>,
 }
 
 impl Scanner<'_> {
-    fn is_in_array(&self) -> bool {
-        self.open.last().is_some_and(|open| open.is_array)
-    }
-
-    // What may stand where the next value is.
-    fn place(&self) -> Place {
-        let last = if self.is_in_array() {
-            ITEM
-        } else {
-            self.key.as_deref().unwrap_or("")
-        };
-        place_of(self.path.as_slice(), last)
-    }
-
-    // Adds an entry of the last key.
-    fn add(
-        &mut self,
-        raw: &str,
-        start: usize,
-        kind: Kind,
-        section: &'static str,
-    ) -> Result<(), AllocError> {
-        let name = match &self.key {
-            Some(key) => String::from_str(self.alloc, key.as_str())?,
-            None => String::new(self.alloc),
-        };
-        let object = match self.path.last() {
-            Some(object) => String::from_str(self.alloc, object.as_str())?,
-            None => String::new(self.alloc),
-        };
-        let text = unescaped(self.alloc, raw)?;
-        let entry = Entry {
-            section,
-            object,
-            name,
-            text,
-            start,
-            end: start.saturating_add(raw.len()),
-            kind,
-        };
-        Ok(self.entries.push(entry)?)
-    }
-
     // Takes the first character of a value.
     fn begin(&mut self, index: usize, c: char) -> Result<(), AllocError> {
         self.is_value = c == '"';
-        let place = self.place();
-        self.value = None;
-        let is_there = match (c, place.text) {
-            ('"', Some(text)) => {
-                self.value = Some(text);
-                true
-            }
-            ('{', Some((Kind::Meta, section))) => {
-                self.add("", index, Kind::Meta, section)?;
-                true
-            }
-            ('{', _) => place.has_object,
-            ('[', _) => place.has_array,
-            (_, _) => false,
+        let shape = match c {
+            '"' => Shape::Text,
+            '{' => Shape::Object,
+            '[' => Shape::Array,
+            'n' => Shape::Null,
+            _ => Shape::Other,
         };
-        if is_there || !place.is_strict {
-            return Ok(());
-        }
-        let is_engines = self.path.is_empty() && self.key.as_deref() == Some("engines");
-        match misplaced(c, place, is_engines) {
-            Some(kind) => self.add("", index, kind, ""),
-            None => Ok(()),
-        }
-    }
-
-    // Opens an object or an array.
-    fn open(&mut self, is_array: bool) -> Result<(), AllocError> {
-        let is_file = self.open.is_empty();
-        let keys = if !is_array && (is_file || self.place().has_object) {
-            Some(HashSet::new(self.alloc))
-        } else {
-            None
-        };
-        let is_item = self.is_in_array();
-        let key = match self.key.take() {
-            Some(key) => key,
-            None if is_item => String::from_str(self.alloc, ITEM)?,
-            None => String::new(self.alloc),
-        };
-        if !is_file {
-            self.path.push(key)?;
-        }
-        self.is_value = is_array;
-        Ok(self.open.push(Open { is_array, keys })?)
+        self.value = self.collector.begin(shape, index)?;
+        Ok(())
     }
 
     // Takes a character outside texts.
@@ -172,42 +60,22 @@ impl Scanner<'_> {
         match c {
             '"' => self.text = Some(index.saturating_add(1)),
             ':' => self.is_value = true,
-            '{' | '[' => self.open(c == '[')?,
+            '{' | '[' => {
+                let is_array = c == '[';
+                self.collector.open(is_array)?;
+                self.is_value = is_array;
+            }
             '}' | ']' => {
-                let _ = self.open.pop();
-                let _ = self.path.pop();
-                self.key = None;
+                self.collector.close();
                 self.is_value = false;
             }
             ',' => {
-                self.key = None;
-                self.is_value = self.is_in_array();
+                self.collector.end_item();
+                self.is_value = self.collector.is_in_array();
             }
             _ => (),
         }
         Ok(())
-    }
-
-    // Takes a key, which starts at this index.
-    fn take_key(&mut self, raw: &str, start: usize) -> Result<(), AllocError> {
-        let key = unescaped(self.alloc, raw)?;
-        self.is_lockfile |= self.path.is_empty() && key.as_str() == "lockfileVersion";
-        let again = String::from_str(self.alloc, key.as_str())?;
-        self.key = Some(key);
-        let is_new = match self.open.last_mut() {
-            Some(
-                Open {
-                    keys: Some(keys),
-                    ..
-                },
-            ) => keys.insert(again)?,
-            _ => true,
-        };
-        if is_new {
-            Ok(())
-        } else {
-            self.add("", start, Kind::Repeated, "")
-        }
     }
 
     // Takes the next character.
@@ -223,18 +91,20 @@ impl Scanner<'_> {
         self.text = None;
         let raw = self.file.get(start..index).unwrap_or("");
         if !self.is_value {
-            return self.take_key(raw, start);
+            let key = unescaped(self.alloc, raw)?;
+            return self.collector.take_key(key, start);
         }
         self.is_value = false;
-        match self.value.take() {
-            Some((kind, section)) => self.add(raw, start, kind, section),
-            None => Ok(()),
-        }
+        let Some((kind, section)) = self.value.take() else {
+            return Ok(());
+        };
+        let text = unescaped(self.alloc, raw)?;
+        self.collector.add(text, start, index, kind, section)
     }
 }
 
 // The entries of JSON, or the one mistake that it is.
-fn of_text(alloc: Global, file: &str) -> Result<Vec<Entry>, AllocError> {
+fn of_text(alloc: Global, file: &str, format: Format) -> Result<Vec<Entry>, AllocError> {
     let mistake = match error_place(alloc, file)? {
         Some(place) => Entry::of_file(alloc, place, "not valid JSON"),
         None if file.trim_start().starts_with('[') => {
@@ -247,24 +117,20 @@ fn of_text(alloc: Global, file: &str) -> Result<Vec<Entry>, AllocError> {
             let mut scanner = Scanner {
                 alloc,
                 file,
-                open: Vec::new(alloc),
-                path: Vec::new(alloc),
-                key: None,
+                collector: Collector::new(alloc, format),
                 is_value: false,
                 value: None,
                 text: None,
                 is_escaped: false,
-                is_lockfile: false,
-                entries: Vec::new(alloc),
             };
             for (index, c) in file.char_indices() {
                 scanner.step(index, c)?;
             }
-            let Scanner {
+            let Collector {
                 is_lockfile,
                 entries,
                 ..
-            } = scanner;
+            } = scanner.collector;
             if !is_lockfile {
                 return Ok(entries);
             }
@@ -306,13 +172,13 @@ fn other(name: &str, file: &str) -> Option<&'static str> {
     }
 }
 
-// The entries of a file with a range on each line, but for empty lines and comments.
+// The entries of a file with a range on each line, but for empty lines and comments. No range, tag or specifier has whitespace before a `#`.
 fn of_lines(alloc: Global, file: &str) -> Result<Vec<Entry>, AllocError> {
     let mut entries = Vec::new(alloc);
     let mut start = 0usize;
     for line in file.split('\n') {
-        let text = line.trim();
-        if !text.is_empty() && !text.starts_with('#') {
+        let text = without_comment(line).trim();
+        if !text.is_empty() {
             let indent = line.len().saturating_sub(line.trim_start().len());
             let kind = if text.starts_with("npm:") || text.starts_with("jsr:") {
                 Kind::Specifier
@@ -354,11 +220,16 @@ pub fn entries(alloc: Global, path: &str, file: &str) -> Result<Vec<Entry>, Allo
             None => of_lines(alloc, file),
         };
     }
+    let format = if name == "package.json" {
+        Format::Package
+    } else {
+        Format::Json
+    };
     // Deno's files may have comments, and standard input, of which no name is known.
     let may_have_comments = name.ends_with(".jsonc") || name.starts_with("deno.") || path == "-";
     if may_have_comments {
-        of_text(alloc, without_comments(alloc, file)?.as_str())
+        of_text(alloc, without_comments(alloc, file)?.as_str(), format)
     } else {
-        of_text(alloc, file)
+        of_text(alloc, file, format)
     }
 }

@@ -19,6 +19,8 @@ pub enum Kind {
     Meta,
     /// A pattern of the folders of workspaces.
     Workspace,
+    /// The path or the URL of an import map.
+    ImportMap,
     /// The level of a rule.
     Level,
     /// A key that stands in its object before.
@@ -37,7 +39,7 @@ struct Section(&'static [&'static str], Kind, usize);
 // Anything else is passed over.
 const NEVER: usize = 100;
 
-const SECTIONS: [Section; 28] = [
+const SECTIONS: [Section; 29] = [
     Section(&["dependencies", "*"], Kind::Dependency, 1),
     Section(&["devDependencies", "*"], Kind::Dependency, 1),
     Section(&["peerDependencies", "*"], Kind::Dependency, 1),
@@ -55,8 +57,9 @@ const SECTIONS: [Section; 28] = [
     Section(&["devEngines", "*", "[]", "version"], Kind::Range, 4),
     Section(&["packageManager"], Kind::Manager, 1),
     Section(&["version"], Kind::Version, 1),
-    Section(&["imports", "*"], Kind::Specifier, NEVER),
-    Section(&["scopes", "*", "*"], Kind::Specifier, NEVER),
+    Section(&["imports", "*"], Kind::Specifier, 1),
+    Section(&["scopes", "*", "*"], Kind::Specifier, 1),
+    Section(&["importMap"], Kind::ImportMap, NEVER),
     Section(&["workspaces", "[]"], Kind::Workspace, NEVER),
     Section(&["workspaces", "packages", "[]"], Kind::Workspace, NEVER),
     Section(&["workspace", "[]"], Kind::Workspace, NEVER),

@@ -1,0 +1,258 @@
+//! Collects the values of a file that hold ranges, and what is there in place of one, while a reader goes over its objects, arrays and texts.
+
+use crate::entry::Entry;
+use crate::sections::{ITEM, Kind, Place, place_of};
+use std::alloc::{AllocError, Global};
+use std::collections::HashSet;
+
+/// What a value is.
+#[derive(Clone, Copy, PartialEq, Eq)]
+pub enum Shape {
+    Text,
+    Object,
+    Array,
+    Null,
+    /// A number, or `true` or `false`.
+    Other,
+}
+
+/// Which file is read.
+#[derive(Clone, Copy, PartialEq, Eq)]
+pub enum Format {
+    /// package.json, in which `imports` is Node's.
+    Package,
+    /// Other JSON.
+    Json,
+    /// pnpm-workspace.yaml.
+    Yaml,
+}
+
+// What is said of a value, where something else belongs. npm takes `null` for no engines.
+fn misplaced(shape: Shape, place: Place, is_engines: bool) -> Option<Kind> {
+    let message = match place.text {
+        Some((Kind::Engine, _)) if shape == Shape::Null => return None,
+        Some((Kind::Engine, _)) => {
+            return Some(Kind::Odd("not a string: no version satisfies it"));
+        }
+        // An import map turns off a specifier by `null`.
+        Some((Kind::Specifier, _)) if shape == Shape::Null => return None,
+        Some((Kind::Specifier, _)) => "expected a string, such as \"npm:preact@10\"",
+        Some((Kind::Version, _)) => "expected a string, such as \"1.2.3\"",
+        Some((Kind::Manager, _)) => "expected a string, such as \"npm@1.2.3\"",
+        Some((Kind::Level, _)) => "expected a string, such as \"off\"",
+        Some((Kind::Workspace, _)) => "expected a string, such as \"packages/*\"",
+        Some(_) => "expected a string, such as \"^1.2\"",
+        None if is_engines && shape == Shape::Null => return None,
+        None if is_engines => {
+            return Some(Kind::Odd("not an object: package managers pass over it"));
+        }
+        None if place.has_object => "expected an object",
+        None if place.has_array => "expected a list",
+        None => return None,
+    };
+    Some(Kind::Mistake(message))
+}
+
+// An object or an array that isn't closed.
+#[derive(Drop)]
+struct Open {
+    is_array: bool,
+    /// The keys so far, in an object on the way to ranges.
+    keys: Option<HashSet<String>>,
+}
+
+/// The values so far, and the way to the next one.
+#[derive(Drop)]
+pub struct Collector {
+    alloc: Global,
+    format: Format,
+    open: Vec<Open>,
+    /// The keys on the way.
+    path: Vec<String>,
+    key: Option<String>,
+    pub is_lockfile: bool,
+    pub entries: Vec<Entry>,
+}
+
+impl Collector {
+    pub fn new(alloc: Global, format: Format) -> Collector {
+        Collector {
+            alloc,
+            format,
+            open: Vec::new(alloc),
+            path: Vec::new(alloc),
+            key: None,
+            is_lockfile: false,
+            entries: Vec::new(alloc),
+        }
+    }
+
+    /// How many objects and arrays are open.
+    pub fn depth(&self) -> usize {
+        self.open.len()
+    }
+
+    pub fn is_in_array(&self) -> bool {
+        self.open.last().is_some_and(|open| open.is_array)
+    }
+
+    // What may stand where the next value is.
+    fn place(&self) -> Place {
+        let last = if self.is_in_array() {
+            ITEM
+        } else {
+            self.key.as_deref().unwrap_or("")
+        };
+        place_of(self.path.as_slice(), last)
+    }
+
+    /// Whether the next value holds ranges, or is on the way to some.
+    pub fn is_asked(&self) -> bool {
+        let place = self.place();
+        place.text.is_some() || place.has_object || place.has_array
+    }
+
+    // Whether a value of another shape is a mistake where the next value is.
+    fn is_strict(&self, place: Place, shape: Shape) -> bool {
+        let key = self.key.as_deref().unwrap_or("");
+        let first = match self.path.first() {
+            Some(first) => first.as_str(),
+            None => key,
+        };
+        match self.format {
+            // pnpm passes over a section without a value.
+            Format::Yaml => shape != Shape::Null || !self.path.is_empty(),
+            Format::Package if first == "imports" || first == "scopes" => false,
+            // The keys of Node's imports.
+            _ if first == "imports" && key.starts_with('#') => false,
+            _ => place.is_strict,
+        }
+    }
+
+    /// Adds an entry of the last key.
+    pub fn add(
+        &mut self,
+        text: String,
+        start: usize,
+        end: usize,
+        kind: Kind,
+        section: &'static str,
+    ) -> Result<(), AllocError> {
+        let name = match &self.key {
+            Some(key) => String::from_str(self.alloc, key.as_str())?,
+            None => String::new(self.alloc),
+        };
+        let object = match self.path.last() {
+            Some(object) => String::from_str(self.alloc, object.as_str())?,
+            None => String::new(self.alloc),
+        };
+        let entry = Entry {
+            section,
+            object,
+            name,
+            text,
+            start,
+            end,
+            kind,
+        };
+        Ok(self.entries.push(entry)?)
+    }
+
+    /// Adds an entry without a text.
+    pub fn add_kind(
+        &mut self,
+        index: usize,
+        kind: Kind,
+        section: &'static str,
+    ) -> Result<(), AllocError> {
+        self.add(String::new(self.alloc), index, index, kind, section)
+    }
+
+    /// Takes the beginning of a value at this index of the file. Of a text it says what it is, if it is to be added.
+    pub fn begin(
+        &mut self,
+        shape: Shape,
+        index: usize,
+    ) -> Result<Option<(Kind, &'static str)>, AllocError> {
+        let place = self.place();
+        let is_there = match (shape, place.text) {
+            (Shape::Text, Some(text)) => return Ok(Some(text)),
+            (Shape::Object, Some((Kind::Meta, section))) => {
+                self.add_kind(index, Kind::Meta, section)?;
+                true
+            }
+            (Shape::Object, _) => place.has_object,
+            (Shape::Array, _) => place.has_array,
+            (_, _) => false,
+        };
+        if is_there || !self.is_strict(place, shape) {
+            return Ok(None);
+        }
+        let is_engines = self.path.is_empty() && self.key.as_deref() == Some("engines");
+        let kind = match misplaced(shape, place, is_engines) {
+            Some(_) if shape == Shape::Other && self.format == Format::Yaml => {
+                Kind::Mistake("not a text to YAML: write it in quotes")
+            }
+            Some(kind) => kind,
+            None => return Ok(None),
+        };
+        self.add_kind(index, kind, "")?;
+        Ok(None)
+    }
+
+    /// Opens an object or an array, the next value.
+    pub fn open(&mut self, is_array: bool) -> Result<(), AllocError> {
+        let is_file = self.open.is_empty();
+        let keys = if !is_array && (is_file || self.place().has_object) {
+            Some(HashSet::new(self.alloc))
+        } else {
+            None
+        };
+        let is_item = self.is_in_array();
+        let key = match self.key.take() {
+            Some(key) => key,
+            None if is_item => String::from_str(self.alloc, ITEM)?,
+            None => String::new(self.alloc),
+        };
+        if !is_file {
+            self.path.push(key)?;
+        }
+        Ok(self.open.push(Open { is_array, keys })?)
+    }
+
+    /// Closes the last object or array.
+    pub fn close(&mut self) {
+        let _ = self.open.pop();
+        let _ = self.path.pop();
+        self.key = None;
+    }
+
+    /// Goes on to the next item or key.
+    pub fn end_item(&mut self) {
+        self.key = None;
+    }
+
+    /// Takes a key, which starts at this index.
+    pub fn take_key(&mut self, key: String, start: usize) -> Result<(), AllocError> {
+        self.is_lockfile |= self.path.is_empty() && key.as_str() == "lockfileVersion";
+        let again = String::from_str(self.alloc, key.as_str())?;
+        self.key = Some(key);
+        let is_new = match self.open.last_mut() {
+            Some(
+                Open {
+                    keys: Some(keys),
+                    ..
+                },
+            ) => keys.insert(again)?,
+            _ => true,
+        };
+        match self.format {
+            _ if is_new => Ok(()),
+            Format::Yaml => {
+                let message = "the key stands before, too: pnpm refuses the file";
+                self.add_kind(start, Kind::Mistake(message), "")
+            }
+            Format::Package | Format::Json => self.add_kind(start, Kind::Repeated, ""),
+        }
+    }
+}
