@@ -195,7 +195,7 @@ pub fn compare<O: Write, E: Write>(
     print_answer(console, "order", Some(sign))
 }
 
-/// `ranges overlap RANGE RANGE..`: `yes` if any two ranges match a version in common, or `no` and the first two that don't.
+/// `ranges overlap RANGE RANGE..`: `yes` if any two ranges match a version in common, or `no` and the first two that don't, or a tag.
 pub fn overlap<O: Write, E: Write>(
     console: &mut Console<O, E>,
     given: Given<'_, '_>,
@@ -203,10 +203,14 @@ pub fn overlap<O: Write, E: Write>(
     let texts = given.texts(console.alloc, "RANGE")?;
     let texts = texts.as_slice();
     let options = console.options;
-    let apart = match ranges(console.alloc, options.flavour, texts) {
-        Ok(ranges) => first_apart(console.alloc, ranges.as_slice(), options.pre_release)?,
+    let ranges = match ranges(console.alloc, options.flavour, texts) {
+        Ok(ranges) => ranges,
         Err(problem) => return reject(console, texts, &problem),
     };
+    if let Some(tag) = ranges.iter().find_map(|range| range.tag()) {
+        return print_tag(console, tag);
+    }
+    let apart = first_apart(console.alloc, ranges.as_slice(), options.pre_release)?;
     let apart = match apart {
         Some((one, other)) => Some((
             texts.get(one).copied().unwrap_or(""),
