@@ -1,6 +1,6 @@
 #!/usr/bin/env python3
-"""Writes the manual page of `ranges` and its completions for bash, zsh and fish, from `ranges --help` and the table of exit
-statuses in docs/RANGES.md. Run at the top of the project after `make`.
+"""Writes the manual page of `ranges` and its completions for bash, zsh and fish, from `ranges --help` and from the rules and the table of
+exit statuses in docs/RANGES.md. Run at the top of the project after `make`.
 
     packaging/generate.py [--check]
 
@@ -34,6 +34,10 @@ ENVIRONMENT = (
     ("TERM", "If it is dumb, nothing is printed in colour, unless --color=always is given."),
 )
 PROGRAM = TOP / "crates/ranges/out/ranges"
+PAGE = TOP / "docs/RANGES.md"
+LEVELS = ("off", "warn", "error")
+# The options that may be given several times.
+REPEATED = ("exclude", "range", "rule")
 
 
 @dataclass
@@ -46,6 +50,12 @@ class Option:
 
     def names(self):
         return [f"-{self.short}"] * bool(self.short) + [f"--{self.name}"]
+
+    def values(self):
+        """The values that are completed."""
+        if self.name == "rule":
+            return [f"{name}={level}" for name in rules() for level in LEVELS]
+        return self.choices
 
 
 @dataclass
@@ -95,9 +105,14 @@ def command(name, description):
     return Command(name, description, usage, rows(text, "Arguments"), options, aliases.split(", ") if aliases else [])
 
 
+def rules():
+    """The names of the rules."""
+    return re.findall(r"^### ([a-z-]+)$", PAGE.read_text(), re.M)
+
+
 def statuses():
     """The exit statuses, each with its meaning."""
-    table = (TOP / "docs/RANGES.md").read_text().split("| Status | Means |\n|---|---|\n")[1].split("\n\n")[0]
+    table = PAGE.read_text().split("| Status | Means |\n|---|---|\n")[1].split("\n\n")[0]
     return [[cell.strip() for cell in row.strip("|").split("|")] for row in table.splitlines()]
 
 
@@ -145,6 +160,10 @@ def bash(commands):
     having = {one.name: one for each in commands for one in each.options if one.choices}.values()
     values = [f'        {"|".join(it.names())}) COMPREPLY=($(compgen -W "{" ".join(it.choices)}" -- "$word")); return ;;' for it in having]
     names = " ".join(name for each in commands for name in each.names())
+    values += [
+        f'        --rule) COMPREPLY=($(compgen -S = -W "{" ".join(rules())}" -- "$word")); compopt -o nospace 2>/dev/null; return ;;',
+        f'        {"|".join(rules())}) COMPREPLY=($(compgen -W "{" ".join(LEVELS)}" -- "$word")); return ;;',
+    ]
     return "\n".join([
         "_ranges() {",
         '    local word=${COMP_WORDS[COMP_CWORD]} before=${COMP_WORDS[COMP_CWORD - 1]} options=""',
@@ -178,10 +197,11 @@ def zsh(commands):
     for each in commands:
         lines.append(f"    {'|'.join(each.names())}) _arguments \\")
         for one in each.options:
-            value = f":{one.value}:({' '.join(one.choices)})" if one.choices else f":{one.value}:" if one.value else ""
+            value = f":{one.value}:({' '.join(one.values())})" if one.values() else f":{one.value}:" if one.value else ""
             plus, equals = ("+", "=") if one.value else ("", "")
             short, long = f"-{one.short}{plus}", f"--{one.name}{equals}"
-            names = f"'(-{one.short} --{one.name})'{{{short},{long}}}'" if one.short else f"'{long}"
+            star = "*" if one.name in REPEATED else ""
+            names = f"'(-{one.short} --{one.name})'{{{short},{long}}}'" if one.short else f"'{star}{long}"
             lines.append(f"        {names}[{quoted(one.help)}]{value}' \\")
         lines.append("        '*:file:_files' ;;" if each.takes_files() else "        '*:argument:' ;;")
     return "\n".join([*lines, "esac", ""])
@@ -197,7 +217,7 @@ def fish(commands):
         for name in each.names():
             lines.append(f"complete -c ranges -n __fish_use_subcommand -a {name} -d {quoted(each.help)}")
         for one in each.options:
-            value = f" -x -a {quoted(' '.join(one.choices))}" if one.value else ""
+            value = f" -x -a {quoted(' '.join(one.values()))}" if one.value else ""
             short = f" -s {one.short}" if one.short else ""
             lines.append(f"complete -c ranges -n {seen}{short} -l {one.name}{value} -d {quoted(one.help)}")
         if each.takes_files():

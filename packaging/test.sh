@@ -176,6 +176,8 @@ install_and_remove() {
     try_programs "$here"
     completion="$here/share/bash-completion/completions/ranges"
     expect explain bash -c ". '$completion'; COMP_WORDS=(ranges ex); COMP_CWORD=1; _ranges; echo \${COMPREPLY[@]}"
+    expect any-zero= bash -c ". '$completion'; COMP_WORDS=(ranges check --rule any); COMP_CWORD=3; _ranges; echo \${COMPREPLY[@]}"
+    expect off bash -c ". '$completion'; COMP_WORDS=(ranges check --rule any-zero = o); COMP_CWORD=5; _ranges; echo \${COMPREPLY[@]}"
     if nm -D --defined-only "$here/lib64/libdeno_semver.so.0" | grep -v ' semver_\| DENO_SEMVER_0'; then
         fail 'the shared library exports more than semver.h'
     fi

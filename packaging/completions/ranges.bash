@@ -7,13 +7,15 @@ _ranges() {
         --color) COMPREPLY=($(compgen -W "auto always never" -- "$word")); return ;;
         -g|--grammar) COMPREPLY=($(compgen -W "npm normalized strict" -- "$word")); return ;;
         --base) COMPREPLY=($(compgen -W "0 1 none" -- "$word")); return ;;
+        --rule) COMPREPLY=($(compgen -S = -W "any-zero contained-alternative disjoint-sections dropped-alternative duplicate-key empty-alternative ignored-comparator meta-without-range no-match not-canonical npm-differs odd-engine odd-path odd-tag pre-release-bound unmatched-workspace" -- "$word")); compopt -o nospace 2>/dev/null; return ;;
+        any-zero|contained-alternative|disjoint-sections|dropped-alternative|duplicate-key|empty-alternative|ignored-comparator|meta-without-range|no-match|not-canonical|npm-differs|odd-engine|odd-path|odd-tag|pre-release-bound|unmatched-workspace) COMPREPLY=($(compgen -W "off warn error" -- "$word")); return ;;
     esac
     if [ "$COMP_CWORD" = 1 ]; then
         COMPREPLY=($(compgen -W "check asked explain canonical normal min common within overlap scans package reference filter matches best outdated compare sort key increment difference help --help --version" -- "$word"))
         return
     fi
     case ${COMP_WORDS[1]} in
-        check) options="--color -j --json --github --sarif -c --canonical --fix --dry-run --rule --strict -q --quiet -h --help -V --version" ;;
+        check) options="--color -j --json --github --sarif -c --canonical --fix --dry-run --exclude --files --rule --strict -q --quiet -h --help -V --version" ;;
         asked) options="--color -j --json -p --pre -q --quiet -h --help -V --version" ;;
         explain) options="--color -j --json -g --grammar -p --pre -h --help -V --version" ;;
         canonical|normal) options="--color -j --json -g --grammar -h --help -V --version" ;;

@@ -77,7 +77,7 @@ def rewritten():
     with tempfile.TemporaryDirectory() as room:
         path = pathlib.Path(room, "package.json")
         path.write_text(json.dumps({"dependencies": {f"p{place}": text for place, text in enumerate(old)}}))
-        subprocess.run([RANGES, "check", "--fix", path], stdout=subprocess.DEVNULL, timeout=20)
+        subprocess.run([RANGES, "check", "--fix", "-q", path], timeout=20)
         new = json.loads(path.read_text())["dependencies"].values()
         again = subprocess.run([RANGES, "check", "--dry-run", path], capture_output=True, text=True, timeout=20).stdout
     pairs = [pair for pair in zip(old, new) if pair[0] != pair[1]]

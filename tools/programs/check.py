@@ -20,7 +20,7 @@ surrogateescape has it, `\\udcff` for 255. A row may also have
 Each row runs with a stack of STACK bytes, and once more where nothing can be written. An example is what stands after
 `$ ` in a console block of a page, where `ranges` is in it, with the lines that it prints. The last line counts; the status is 1
 where something differs."""
-import contextlib, ctypes, difflib, json, os, pathlib, pty, re, resource, shutil, subprocess, sys, tempfile, termios, threading
+import contextlib, ctypes, difflib, json, os, pathlib, pty, re, resource, select, shutil, subprocess, sys, tempfile, termios, threading
 
 TOP = pathlib.Path(__file__).resolve().parents[2]
 HERE = pathlib.Path(__file__).resolve().parent
@@ -73,7 +73,7 @@ ONE_EXPLAINED = (
     '{"alternatives":[{"end":{"inclusive":false,"version":"2.0.0"},"lowest":"1.0.0","pre-releases":[],'
     '"start":{"inclusive":true,"version":"1.0.0"},"text":"1"}],"canonical":"1"}\n'
 )
-ONE_CHECKED = '-:{}:1: error: "^1..2": not a version range\n  | ^1..2\n  |    ^ expected a number or a wildcard\n'
+ONE_CHECKED = '-:{}:4: error: "^1..2": not a version range\n  | ^1..2\n  |    ^ expected a number or a wildcard\n'
 
 
 def as_bytes(given):
@@ -343,6 +343,38 @@ def questions():
             yield None if found == wanted else f"{table[:60]} .. of C, with a small stack: wanted {wanted}, found {found}"
 
 
+def live():
+    """On a terminal `filter` answers each line before the next one comes."""
+    ours, theirs = terminal()
+    child = subprocess.Popen([str(RANGES), "filter", "^1"], stdin=subprocess.PIPE, stdout=theirs, stderr=subprocess.DEVNULL)
+    os.close(theirs)
+    for line in (b"1.0.0\n", b"1.2.0\n"):
+        child.stdin.write(line)
+        child.stdin.flush()
+        found = os.read(ours, 100) if select.select([ours], [], [], SECONDS)[0] else b""
+        yield None if found == line else f"filter on a terminal, after {line}: found {found}"
+    child.stdin.close()
+    status = child.wait(60)
+    os.close(ours)
+    yield None if status == 0 else f"filter on a terminal: status {status}"
+
+
+def changed():
+    """A file that changes after `--fix` has read it isn't rewritten, nor is another one."""
+    with room_of({"one": "1.x\n", "other": "2.x\n"}) as name:
+        room = pathlib.Path(name)
+        os.mkfifo(room / "late")
+        child = subprocess.Popen([str(RANGES), "check", "--fix", "one", "other", "late"], cwd=room, stderr=subprocess.PIPE)
+        # It opens once the files before it were read.
+        with open(room / "late", "w") as late:
+            (room / "one").write_text("3.x\n")
+            late.write("^1.2.0\n")
+        told = child.communicate(timeout=60)[1].decode()
+        found = told, child.returncode, {path.name: path.read_text() for path in room.iterdir() if path.is_file()}
+    wanted = "ranges: one: changed since it was read: no file is rewritten\n", 3, {"one": "3.x\n", "other": "2.x\n"}
+    yield None if found == wanted else f"--fix of a file that changes: wanted {wanted}, found {found}"
+
+
 def examples(page):
     """The command lines of a page and what it says they print."""
     for block in re.findall(r"^```console\n(.*?)^```$", page, re.S | re.M):
@@ -449,7 +481,7 @@ def main():
     for program in PROGRAMS.values():
         if not program.is_file():
             sys.exit(f"{program} isn't built: run rt ci first")
-    checks = (rows, unwritable, unreadable, long_texts, many_ranges, plenty, questions, sarif, diffs, pages, memory, scarce, closed)
+    checks = (rows, unwritable, unreadable, long_texts, many_ranges, plenty, questions, sarif, diffs, live, changed, pages, memory, scarce, closed)
     if FOLDER:
         checks = (rows,)
     outcomes = [outcome for check in checks for outcome in check()]

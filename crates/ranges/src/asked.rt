@@ -2,7 +2,7 @@
 
 use crate::apart::first_apart;
 use crate::fixing::range_of_specifier;
-use crate::walking::{Manifests, paths, read_file};
+use crate::walking::{Manifests, find, read_file};
 use answers::asking::Problem;
 use answers::object::Object;
 use answers::questions::text_of_version;
@@ -360,26 +360,25 @@ pub fn report<R: Runtime + AllocGlobal, O: Write, E: Write>(
 ) -> Result<Status, Stop> {
     let alloc = console.alloc;
     let found = match matches.get_str("FOLDER") {
-        Some(folder) => paths(rt, console, Some(&[folder]))?,
-        None => paths(rt, console, None)?,
+        Some(folder) => find(rt, console, Some(&[folder]), &[])?,
+        None => find(rt, console, None, &[])?,
     };
-    let Manifests {
-        paths: files,
-        mut status,
-    } = found;
+    let Manifests { groups, mut status } = found;
     let mut manifests = Vec::new(alloc);
-    for path in files.iter() {
-        let path = path.as_str();
-        match read_file(rt, console, path) {
-            Ok(text) => {
-                let text = text.as_str();
-                let text = text.strip_prefix('\u{feff}').unwrap_or(text);
-                let entries = entries(alloc, path, text)?;
-                let path = String::from_str(alloc, path)?;
-                manifests.push(Manifest { path, entries })?;
+    for group in groups.iter() {
+        for path in group.paths.iter() {
+            let path = path.as_str();
+            match read_file(rt, console, path) {
+                Ok(text) => {
+                    let text = text.as_str();
+                    let text = text.strip_prefix('\u{feff}').unwrap_or(text);
+                    let entries = entries(alloc, path, text)?;
+                    let path = String::from_str(alloc, path)?;
+                    manifests.push(Manifest { path, entries })?;
+                }
+                Err(Stop::Ended(unread)) => status = status.worse(unread),
+                Err(stop) => return Err(stop),
             }
-            Err(Stop::Ended(unread)) => status = status.worse(unread),
-            Err(stop) => return Err(stop),
         }
     }
     let packages = all_packages(alloc, manifests.as_slice())?;

@@ -3,10 +3,10 @@
 use crate::advice::{bound_of_pre_releases, warnings};
 use crate::errors::{errors_at_end, errors_of};
 use crate::explaining::has_left_out;
-use crate::findings::{Cause, Finding, Position, Report};
-use crate::fixing::fix;
+use crate::findings::{Cause, Finding, Format, Position, Report};
+use crate::fixing::{Rewritten, apply, print_diffs, rewrite, write_all};
 use crate::rules::{Levels, Rule};
-use crate::walking::{Manifests, paths, read_file};
+use crate::walking::{Group, Manifests, find, read_file};
 use answers::asking::{Answer, Problem};
 use answers::explained::{Explanation, Meaning, Piece, explain};
 use answers::questions::common_version;
@@ -19,7 +19,7 @@ use std::alloc::{AllocError, Global};
 use std::collections::{HashMap, HashSet};
 use std::io::Write;
 use std::rt::{Files, Runtime};
-use terminal::console::{Console, Status, Stop};
+use terminal::console::{Console, Status, Stop, print_line};
 use terminal::entry::Entry;
 use terminal::hints::{question, url_behind};
 use terminal::manifest::entries;
@@ -475,25 +475,32 @@ fn check_entry<'e, O: Write, E: Write>(
         }
         Kind::Odd(message) => report.add(console, entry, Finding::by(Rule::OddEngine, message)),
         Kind::Mistake(message) => report.add(console, entry, Finding::new(Cause::Refused, message)),
+        Kind::Workspace if report.unmatched.contains(&entry.text) => {
+            let message = "no folder with a manifest matches it";
+            report.add(
+                console,
+                entry,
+                Finding::by(Rule::UnmatchedWorkspace, message),
+            )
+        }
         Kind::Workspace | Kind::ImportMap | Kind::Level => Ok(()),
     }
 }
 
 // ---- files
 
-// Sets the levels that a file asks for, and then those that the arguments do.
+// Sets the levels that a file asks for.
 fn set_levels<O: Write, E: Write>(
     console: &mut Console<O, E>,
     report: &mut Report<'_>,
-    text: &str,
     entries: &[Entry],
-    settings: &[&str],
 ) -> Result<(), Stop> {
-    report.levels = Levels::new();
+    let alloc = console.alloc;
     for entry in entries.iter().filter(|entry| entry.kind == Kind::Level) {
-        if let Err(unknown) = report.levels.set(entry.name.as_str(), entry.text.as_str()) {
-            report.position.move_to(text, entry.start);
-            let message = format!(in console.alloc; "{unknown}")?;
+        let (name, level) = (entry.name.as_str(), entry.text.as_str());
+        if let Some(unknown) = report.levels.set(alloc, name, level)? {
+            report.position.move_to(report.text, entry.start);
+            let message = format!(in alloc; "{unknown}")?;
             report.add(
                 console,
                 entry,
@@ -503,11 +510,6 @@ fn set_levels<O: Write, E: Write>(
         }
     }
     report.position = Position::START;
-    for setting in settings {
-        let (name, level) = setting.split_once('=').unwrap_or((*setting, ""));
-        // They were tried before.
-        let _ = report.levels.set(name, level);
-    }
     Ok(())
 }
 
@@ -535,31 +537,58 @@ fn check_entries<O: Write, E: Write>(
     Ok(())
 }
 
+// What is checked: a file, and what holds for it.
+#[derive(Clone, Copy)]
+struct Checked<'f> {
+    path: &'f str,
+    text: &'f str,
+    /// Whether the levels that it sets count for all files of its group.
+    is_own: bool,
+    /// The settings of the arguments.
+    settings: &'f [&'f str],
+}
+
+// Checks the text of a file. The report has the levels of the group, and takes those of the group's own files.
+fn check_text<'r, O: Write, E: Write>(
+    console: &mut Console<O, E>,
+    group: &mut Report<'r>,
+    file: Checked<'_>,
+) -> Result<Status, Stop> {
+    // Some programs begin UTF-8 with a byte order mark.
+    let text = file.text.strip_prefix('\u{feff}').unwrap_or(file.text);
+    let entries = entries(console.alloc, file.path, text)?;
+    let unmatched = if file.is_own { group.unmatched } else { &[] };
+    let mut report = Report {
+        file: file.path,
+        text,
+        unmatched,
+        ..*group
+    };
+    set_levels(console, &mut report, entries.as_slice())?;
+    if file.is_own {
+        group.levels = report.levels;
+    }
+    apply(console.alloc, &mut report.levels, file.settings)?;
+    check_entries(console, &mut report, text, entries.as_slice())?;
+    console.end_part()?;
+    Ok(report.status)
+}
+
 // Checks a file, or standard input for `-`.
 fn check_file<R: Input + Files + AllocGlobal, O: Write, E: Write>(
     rt: &R,
     console: &mut Console<O, E>,
-    report: &Report<'_>,
-    file: &str,
-    settings: &[&str],
+    group: &mut Report<'_>,
+    file: Checked<'_>,
 ) -> Result<Status, Stop> {
-    let text = match read_file(rt, console, file) {
-        Ok(text) => text,
-        Err(Stop::Ended(status)) => return Ok(status),
-        Err(stop) => return Err(stop),
-    };
-    // Some programs begin UTF-8 with a byte order mark.
-    let text = text.as_str();
-    let text = text.strip_prefix('\u{feff}').unwrap_or(text);
-    let entries = entries(console.alloc, file, text)?;
-    let mut report = Report {
-        file,
-        text,
-        ..*report
-    };
-    set_levels(console, &mut report, text, entries.as_slice(), settings)?;
-    check_entries(console, &mut report, text, entries.as_slice())?;
-    Ok(report.status)
+    match read_file(rt, console, file.path) {
+        Ok(text) => {
+            let text = text.as_str();
+            check_text(console, group, Checked { text, ..file })
+        }
+        Err(Stop::Ended(status)) => Ok(status),
+        Err(stop) => Err(stop),
+    }
 }
 
 // Tries the settings of rules, and reports one with an unknown name or level.
@@ -570,13 +599,126 @@ fn try_settings<O: Write, E: Write>(
     let mut levels = Levels::new();
     for setting in settings {
         let (name, level) = setting.split_once('=').unwrap_or((*setting, ""));
-        if let Err(unknown) = levels.set(name, level) {
+        if let Some(unknown) = levels.set(console.alloc, name, level)? {
             let message = format!(in console.alloc; "{unknown}")?;
             let _ = console.complain(format_args!("--rule {}", Shown(setting)), message.as_str());
             return Err(Stop::Ended(Status::Misused));
         }
     }
     Ok(())
+}
+
+// Checks the files of a group.
+fn check_group<R: Input + Files + AllocGlobal, O: Write, E: Write>(
+    rt: &R,
+    console: &mut Console<O, E>,
+    report: &Report<'_>,
+    group: &Group,
+    settings: &[&str],
+) -> Result<Status, Stop> {
+    let mut report = Report {
+        unmatched: group.unmatched.as_slice(),
+        ..*report
+    };
+    let mut status = Status::Answered;
+    for (place, path) in group.paths.iter().enumerate() {
+        let file = Checked {
+            path: path.as_str(),
+            text: "",
+            is_own: place < group.own,
+            settings,
+        };
+        status = status.worse(check_file(rt, console, &mut report, file)?);
+    }
+    Ok(status)
+}
+
+// Prints on standard error what --fix leaves in the files of a group, from this place on.
+fn check_rewritten<O: Write, E: Write>(
+    console: &mut Console<O, E>,
+    report: &Report<'_>,
+    group: &Group,
+    files: &[Rewritten],
+    settings: &[&str],
+) -> Result<Status, Stop> {
+    let mut report = Report {
+        unmatched: group.unmatched.as_slice(),
+        ..*report
+    };
+    let mut status = Status::Answered;
+    for (place, file) in files.iter().enumerate() {
+        let file = Checked {
+            path: file.path.as_str(),
+            text: file.new.as_str(),
+            is_own: place < group.own,
+            settings,
+        };
+        status = status.worse(check_text(console, &mut report, file)?);
+    }
+    Ok(status)
+}
+
+// Prints what --fix would change, and on standard error what it would leave.
+fn check_dry<R: Input + Files + AllocGlobal, O: Write, E: Write>(
+    rt: &R,
+    console: &mut Console<O, E>,
+    report: &Report<'_>,
+    groups: &[Group],
+    settings: &[&str],
+) -> Result<Status, Stop> {
+    let format = if console.options.quiet {
+        Format::Silent
+    } else {
+        Format::Lines
+    };
+    let report = Report { format, ..*report };
+    let mut status = Status::Answered;
+    let mut all = Vec::new(console.alloc);
+    for group in groups {
+        all.push(rewrite(rt, console, group, settings)?)?;
+    }
+    for files in all.iter() {
+        status = status.worse(print_diffs(console, files.as_slice())?);
+    }
+    console.out.flush()?;
+    let mut left = console.on_error();
+    let silent = Report {
+        format: Format::Silent,
+        ..report
+    };
+    for (group, files) in groups.iter().zip(all.iter()) {
+        let files = files.as_slice();
+        let found = match check_rewritten(&mut left, &report, group, files, settings) {
+            // What can't be written to standard error is left out.
+            Err(Stop::Unwritten | Stop::Closed) => {
+                check_rewritten(&mut left, &silent, group, files, settings)?
+            }
+            found => found?,
+        };
+        status = status.worse(found);
+    }
+    Ok(status)
+}
+
+// Rewrites files, and says how many ranges of how many.
+fn fix<R: Runtime + AllocGlobal, O: Write, E: Write>(
+    rt: &R,
+    console: &mut Console<O, E>,
+    groups: &[Group],
+    settings: &[&str],
+) -> Result<Status, Stop> {
+    let mut changed = Vec::new(console.alloc);
+    for group in groups {
+        if group.paths.iter().any(|path| path.as_str() == "-") {
+            return Ok(console.complain("--fix", "standard input can't be rewritten"));
+        }
+        for file in rewrite(rt, console, group, settings)? {
+            if file.count > 0 {
+                changed.push(file)?;
+            }
+        }
+    }
+    write_all(rt, console, changed)
 }
 
 /// `ranges check [FILE..]`: the ranges of each file that are refused, or legal and probably a mistake.
@@ -587,20 +729,33 @@ pub fn check<R: Runtime + AllocGlobal, O: Write, E: Write>(
 ) -> Result<Status, Stop> {
     let settings = matches.get_strs("rule").unwrap_or(&[]);
     try_settings(console, settings)?;
-    let Manifests { paths, mut status } = paths(rt, console, matches.get_strs("FILE"))?;
+    let excludes = matches.get_strs("exclude").unwrap_or(&[]);
+    let found = find(rt, console, matches.get_strs("FILE"), excludes)?;
+    let Manifests { groups, mut status } = found;
+    let groups = groups.as_slice();
+    if matches.get_flag("files") {
+        for path in groups.iter().flat_map(|group| group.paths.iter()) {
+            print_line(&mut console.out, Shown(path.as_str()))?;
+        }
+        return Ok(status);
+    }
+    let report = Report::new(matches);
     let is_dry = matches.get_flag("dry-run");
     if is_dry || matches.get_flag("fix") {
-        if status == Status::Answered {
-            status = fix(rt, console, paths.as_slice(), settings, is_dry)?;
+        if status != Status::Answered {
+            return Ok(status);
         }
-        if is_dry || status != Status::Answered {
+        if is_dry {
+            return check_dry(rt, console, &report, groups, settings);
+        }
+        status = fix(rt, console, groups, settings)?;
+        if status != Status::Answered {
             return Ok(status);
         }
     }
-    let report = Report::new(matches);
     report.format.begin(console)?;
-    for path in paths.iter() {
-        let checked = check_file(rt, console, &report, path.as_str(), settings)?;
+    for group in groups {
+        let checked = check_group(rt, console, &report, group, settings)?;
         status = status.worse(checked);
     }
     report.format.end(console)?;

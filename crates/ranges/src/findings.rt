@@ -17,6 +17,8 @@ use terminal::shown::{Quoted, Shown};
 /// How findings are printed.
 #[derive(Clone, Copy, PartialEq, Eq)]
 pub enum Format {
+    /// They aren't: only the status tells.
+    Silent,
     Lines,
     Json,
     GitHub,
@@ -125,6 +127,8 @@ pub struct Report<'r> {
     /// The text of the file.
     pub text: &'r str,
     pub position: Position,
+    /// The patterns of workspaces in the file that no folder matches.
+    pub unmatched: &'r [String],
     pub status: Status,
     /// The status of a warning.
     pub warning: Status,
@@ -138,14 +142,14 @@ impl Format {
                 let rules = sarif_rules(console.alloc)?.to_string(console.alloc)?;
                 Ok(write!(console.out, "{SARIF_FRONT}{rules}{SARIF_MIDDLE}")?)
             }
-            Format::Lines | Format::Json | Format::GitHub => Ok(()),
+            Format::Silent | Format::Lines | Format::Json | Format::GitHub => Ok(()),
         }
     }
 
     /// Prints what stands behind all findings.
     pub fn end<O: Write, E: Write>(self, console: &mut Console<O, E>) -> Result<(), Stop> {
         match self {
-            Format::Lines | Format::GitHub => Ok(()),
+            Format::Silent | Format::Lines | Format::GitHub => Ok(()),
             Format::Json => console.end_items(),
             Format::Sarif => {
                 console.end_items()?;
@@ -179,6 +183,7 @@ impl<'r> Report<'r> {
             file: "-",
             text: "",
             position: Position::START,
+            unmatched: &[],
             status: Status::Answered,
             warning,
         }
@@ -460,6 +465,7 @@ impl Report<'_> {
         };
         self.status = self.status.worse(status);
         match self.format {
+            Format::Silent => Ok(()),
             Format::Json => console.item(self.json(console.alloc, entry, finding, weight)),
             Format::GitHub => {
                 let text = self.annotation(console.alloc, entry, finding, weight)?;
@@ -517,7 +523,8 @@ impl Report<'_> {
             Weight::Warning | Weight::Notice => style.code(WARNING),
         };
         let (file, end) = (Shown(self.file), style.code(END));
-        let Position { line, column, .. } = self.position;
+        let line = self.position.line;
+        let (column, _) = self.columns(entry, finding);
         write!(console.out, "{file}:{line}:{column}: ")?;
         if weight != Weight::Notice {
             write!(console.out, "{start}{}{end}: ", weight.name())?;

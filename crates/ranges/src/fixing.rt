@@ -3,7 +3,7 @@
 use crate::advice::contained;
 use crate::diff::print_diff;
 use crate::rules::{Level, Levels, Rule};
-use crate::walking::read_file;
+use crate::walking::{Group, read_file};
 use answers::asking::Problem;
 use answers::explained::{Explanation, Meaning, Piece, explain};
 use answers::reading;
@@ -18,7 +18,7 @@ use std::os::unix::fs as unix;
 use std::os::unix::fs::MetadataExt;
 use std::path::PathBuf;
 use std::rt::Files;
-use std::{fs, io};
+use std::{fmt, fs, io};
 use terminal::console::{Console, Status, Stop};
 use terminal::entry::Entry;
 use terminal::hints::corrected;
@@ -282,18 +282,21 @@ fn is_plain(text: &str) -> bool {
     text.starts_with(['^', '~', '<'].as_slice())
 }
 
-// The levels of rules in a file.
-fn levels_of(entries: &[Entry], settings: &[&str]) -> Levels {
-    let mut levels = Levels::new();
-    let _ = levels.set(Rule::NotCanonical.name(), "warn");
+// Sets the levels that a file asks for.
+fn set_levels(alloc: Global, levels: &mut Levels, entries: &[Entry]) -> Result<(), AllocError> {
     for entry in entries.iter().filter(|entry| entry.kind == Kind::Level) {
-        let _ = levels.set(entry.name.as_str(), entry.text.as_str());
+        let _ = levels.set(alloc, entry.name.as_str(), entry.text.as_str())?;
     }
+    Ok(())
+}
+
+/// Sets the levels that the arguments ask for, which were tried before.
+pub fn apply(alloc: Global, levels: &mut Levels, settings: &[&str]) -> Result<(), AllocError> {
     for setting in settings {
         let (name, level) = setting.split_once('=').unwrap_or((*setting, ""));
-        let _ = levels.set(name, level);
+        let _ = levels.set(alloc, name, level)?;
     }
-    levels
+    Ok(())
 }
 
 // A file that is rewritten.
@@ -304,6 +307,8 @@ struct Edit<'t> {
     /// What it was rewritten to, and how much of the text that stands for.
     new: String,
     taken: usize,
+    /// How many ranges were rewritten.
+    count: usize,
 }
 
 impl Edit<'_> {
@@ -329,6 +334,7 @@ impl Edit<'_> {
             ""
         };
         self.taken = end;
+        self.count = self.count.saturating_add(1);
         for part in &[before, quote, range, quote] {
             self.new.push_str(part)?;
         }
@@ -336,43 +342,67 @@ impl Edit<'_> {
     }
 }
 
-// The text of a file with better ranges. Its other bytes stay.
-fn with_fixes(alloc: Global, path: &str, file: &str, settings: &[&str]) -> Result<String, Stop> {
+// A file with better ranges. Its other bytes stay.
+fn rewritten(
+    alloc: Global,
+    path: &str,
+    old: String,
+    entries: &[Entry],
+    levels: &Levels,
+) -> Result<Rewritten, Stop> {
     // Places count from behind the byte order mark.
+    let file = old.as_str();
     let text = file.strip_prefix('\u{feff}').unwrap_or(file);
-    let entries = entries(alloc, path, text)?;
-    let levels = levels_of(entries.as_slice(), settings);
     let mark = file.len().saturating_sub(text.len());
     let mut edit = Edit {
         text,
         is_yaml: path.ends_with(".yaml"),
         new: String::from_str(alloc, file.get(..mark).unwrap_or(""))?,
         taken: 0,
+        count: 0,
     };
-    for entry in entries.iter() {
+    for entry in entries {
         if let Some(found) = found_in(alloc, entry)?
-            && let Some(range) = better(alloc, &levels, entry.kind, found)?
+            && let Some(range) = better(alloc, levels, entry.kind, found)?
         {
             edit.put(entry, found, range.as_str())?;
         }
     }
-    let Edit { mut new, taken, .. } = edit;
+    let Edit {
+        mut new,
+        taken,
+        count,
+        ..
+    } = edit;
     new.push_str(text.get(taken..).unwrap_or(""))?;
-    Ok(new)
+    let path = String::from_str(alloc, path)?;
+    Ok(Rewritten {
+        path,
+        old,
+        new,
+        count,
+    })
 }
 
 // ---- files
 
-// A file with better ranges.
-struct Rewritten {
-    path: String,
+/// A file with better ranges.
+pub struct Rewritten {
+    pub path: String,
     old: String,
-    new: String,
+    pub new: String,
+    /// How many ranges were rewritten.
+    pub count: usize,
 }
 
 impl Drop for Rewritten {
     fn drop(self) {
-        let Rewritten { path, old, new } = self;
+        let Rewritten {
+            path,
+            old,
+            new,
+            count: _,
+        } = self;
         drop(path);
         drop(old);
         drop(new);
@@ -480,30 +510,80 @@ fn all_targets<R: Files + AllocGlobal, O: Write, E: Write>(
     Ok(targets)
 }
 
-// Writes all files that were rewritten, or none, and reports what can't be written.
-fn write_all<R: Files + AllocGlobal, O: Write, E: Write>(
+// Removes what stands beside the files.
+fn remove_all<R: Files>(rt: &R, targets: &[Target]) {
+    for target in targets {
+        target.spot.remove(rt);
+    }
+}
+
+// The first file that isn't any more what it was when it was read.
+fn first_changed<'t, R: Files + AllocGlobal>(rt: &R, targets: &'t [Target]) -> Option<&'t Target> {
+    targets.iter().find(|target| match fs::read_to_string(rt, target.spot.real.as_str()) {
+        Ok(text) => text.as_str() != target.file.old.as_str(),
+        Err(_) => true,
+    })
+}
+
+// Writes all new files beside the old ones, or none, and reports what can't be written, or has changed.
+fn write_beside<R: Files + AllocGlobal, O: Write, E: Write>(
+    rt: &R,
+    console: &mut Console<O, E>,
+    targets: &[Target],
+) -> Result<Status, Stop> {
+    for (place, Target { file, spot }) in targets.iter().enumerate() {
+        if let Err(error) = spot.write(rt, file.new.as_str()) {
+            remove_all(rt, targets.get(..place).unwrap_or(&[]));
+            return complain(console, file.path.as_str(), &error);
+        }
+    }
+    let Some(changed) = first_changed(rt, targets) else {
+        return Ok(Status::Answered);
+    };
+    remove_all(rt, targets);
+    let message = "changed since it was read: no file is rewritten";
+    Ok(console.complain(Shown(changed.file.path.as_str()), message))
+}
+
+/// Writes all files that were rewritten, or none, and says how many ranges of how many files, or reports what can't be written.
+pub fn write_all<R: Files + AllocGlobal, O: Write, E: Write>(
     rt: &R,
     console: &mut Console<O, E>,
     all: Vec<Rewritten>,
 ) -> Result<Status, Stop> {
     let targets = all_targets(rt, console, all)?;
-    for (place, Target { file, spot }) in targets.iter().enumerate() {
-        if let Err(error) = spot.write(rt, file.new.as_str()) {
-            for written in targets.iter().take(place) {
-                written.spot.remove(rt);
-            }
-            return complain(console, file.path.as_str(), &error);
-        }
+    let targets = targets.as_slice();
+    let status = write_beside(rt, console, targets)?;
+    if status != Status::Answered {
+        return Ok(status);
     }
+    let mut count = 0usize;
     for (place, target) in targets.iter().enumerate() {
         if let Err(error) = target.spot.rename(rt) {
-            for written in targets.iter().skip(place) {
-                written.spot.remove(rt);
-            }
-            return undo(rt, console, targets.as_slice(), place, &error);
+            remove_all(rt, targets.get(place..).unwrap_or(&[]));
+            return undo(rt, console, targets, place, &error);
         }
+        count = count.saturating_add(target.file.count);
+    }
+    let (ranges, files) = (Counted(count, "range"), Counted(targets.len(), "file"));
+    if count == 0 {
+        console.tell("found nothing to rewrite");
+    } else {
+        console.tell(format_args!("rewrote {ranges} in {files}"));
     }
     Ok(Status::Answered)
+}
+
+// So many things of a name.
+#[derive(Clone, Copy)]
+struct Counted(usize, &'static str);
+
+impl fmt::Display for Counted {
+    fn fmt<W: fmt::Write>(&self, f: &mut fmt::Formatter<W>) -> fmt::Result {
+        let Counted(count, name) = *self;
+        let end = if count == 1 { "" } else { "s" };
+        write!(f, "{count} {name}{end}")
+    }
 }
 
 // Writes what the files before a place held, since the one there can't be written.
@@ -528,39 +608,43 @@ fn undo<R: Files, O: Write, E: Write>(
     Ok(status)
 }
 
-/// Rewrites the ranges of files, or prints what would change. If a file can't be read, none is written.
-pub fn fix<R: Input + Files + AllocGlobal, O: Write, E: Write>(
+/// The files of a group with better ranges. One that can't be read ends the command.
+pub fn rewrite<R: Input + Files + AllocGlobal, O: Write, E: Write>(
     rt: &R,
     console: &mut Console<O, E>,
-    paths: &[String],
+    group: &Group,
     settings: &[&str],
-    is_dry: bool,
-) -> Result<Status, Stop> {
+) -> Result<Vec<Rewritten>, Stop> {
     let alloc = console.alloc;
     let mut all = Vec::new(alloc);
-    for path in paths {
+    let mut shared = Levels::new();
+    shared.put(Rule::NotCanonical, Level::Warning);
+    for (place, path) in group.paths.iter().enumerate() {
         let path = path.as_str();
-        if path == "-" && !is_dry {
-            let status = console.complain("--fix", "standard input can't be rewritten");
-            return Err(Stop::Ended(status));
-        }
         let old = read_file(rt, console, path)?;
-        let new = with_fixes(alloc, path, old.as_str(), settings)?;
-        if new.as_str() != old.as_str() {
-            let path = String::from_str(alloc, path)?;
-            all.push(Rewritten { path, old, new })?;
+        let text = old.as_str();
+        let entries = entries(alloc, path, text.strip_prefix('\u{feff}').unwrap_or(text))?;
+        let mut levels = shared;
+        set_levels(alloc, &mut levels, entries.as_slice())?;
+        if place < group.own {
+            shared = levels;
         }
+        apply(alloc, &mut levels, settings)?;
+        all.push(rewritten(alloc, path, old, entries.as_slice(), &levels)?)?;
     }
-    if !is_dry {
-        return write_all(rt, console, all);
-    }
-    for file in all.iter() {
+    Ok(all)
+}
+
+/// Prints what changes in files. The status says whether something does.
+pub fn print_diffs<O: Write, E: Write>(
+    console: &mut Console<O, E>,
+    files: &[Rewritten],
+) -> Result<Status, Stop> {
+    let mut status = Status::Answered;
+    for file in files.iter().filter(|file| file.count > 0) {
         let (path, old, new) = (file.path.as_str(), file.old.as_str(), file.new.as_str());
         print_diff(console, path, old, new)?;
+        status = Status::Found;
     }
-    Ok(if all.is_empty() {
-        Status::Answered
-    } else {
-        Status::Found
-    })
+    Ok(status)
 }

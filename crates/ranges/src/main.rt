@@ -171,6 +171,7 @@ fn main(rt: HostRuntime) -> ExitCode {
     let is_plain = has_no_color || is_dumb;
     let terminal = Terminal {
         reads: rt.stdin().is_terminal(),
+        writes: rt.stdout().is_terminal(),
         out: style(rt.stdout().is_terminal(), is_plain),
         err: style(rt.stderr().is_terminal(), is_plain),
     };

@@ -1,6 +1,11 @@
 //! The rules of `ranges check`: what is legal, and probably a mistake.
 
+use std::alloc::{AllocError, Global};
 use std::fmt;
+use strsim::osa_distance;
+
+// Of so many letters one may be wrong.
+const MANY_LETTERS: usize = 4;
 
 /// How a finding by a rule counts.
 #[derive(Clone, Copy, PartialEq, Eq)]
@@ -28,6 +33,7 @@ pub enum Rule {
     OddPath,
     OddTag,
     PreReleaseBound,
+    UnmatchedWorkspace,
 }
 
 /// A rule, its level where nothing sets it, what it finds, and what to do.
@@ -40,7 +46,7 @@ pub struct About {
     pub help: &'static str,
 }
 
-const COUNT: usize = 15;
+const COUNT: usize = 16;
 
 /// All rules, by name.
 pub const RULES: [About; COUNT] = [
@@ -149,6 +155,13 @@ pub const RULES: [About; COUNT] = [
         finds: "A bound is a pre-release, so pre-releases of its three numbers match.",
         help: "Write the bound without its pre-release, unless that is meant.",
     },
+    About {
+        rule: Rule::UnmatchedWorkspace,
+        name: "unmatched-workspace",
+        level: Level::Warning,
+        finds: "A pattern of workspaces matches no folder that has a manifest.",
+        help: "Correct the pattern, or leave it out.",
+    },
 ];
 
 impl Rule {
@@ -168,16 +181,34 @@ pub struct Levels([Level; COUNT]);
 /// What isn't known of a setting.
 #[derive(Clone, Copy)]
 pub enum Unknown {
-    Rule,
+    /// The rule, and the one whose name is nearest.
+    Rule(Option<&'static str>),
     Level,
+}
+
+// The rule whose name is nearest to a text, if that may be meant.
+fn nearest(alloc: Global, text: &str) -> Result<Option<&'static str>, AllocError> {
+    let mut best = None;
+    let mut least = usize::MAX;
+    for about in &RULES {
+        let edits = osa_distance(alloc, text, about.name)?;
+        if edits < least && edits <= about.name.len() / MANY_LETTERS {
+            best = Some(about.name);
+            least = edits;
+        }
+    }
+    Ok(best)
 }
 
 impl fmt::Display for Unknown {
     fn fmt<W: fmt::Write>(&self, f: &mut fmt::Formatter<W>) -> fmt::Result {
         match self {
             Unknown::Level => f.write_str("no such level; there are off, warn and error"),
-            Unknown::Rule => {
-                f.write_str("no such rule; there are")?;
+            Unknown::Rule(nearest) => {
+                match nearest {
+                    Some(nearest) => write!(f, "no such rule: is `{nearest}` meant? There are")?,
+                    None => f.write_str("no such rule; there are")?,
+                }
                 let mut separator = " ";
                 for about in &RULES {
                     write!(f, "{separator}{}", about.name)?;
@@ -212,20 +243,34 @@ impl Levels {
         }
     }
 
-    /// Sets the level of the rule with this name.
-    pub fn set(&mut self, name: &str, level: &str) -> Result<(), Unknown> {
+    /// Sets the level of the rule with this name, or says what isn't known.
+    pub fn set(
+        &mut self,
+        alloc: Global,
+        name: &str,
+        level: &str,
+    ) -> Result<Option<Unknown>, AllocError> {
         let level = match level {
             "off" => Level::Off,
-            "warn" => Level::Warning,
+            "warn" | "warning" => Level::Warning,
             "error" => Level::Error,
-            _ => return Err(Unknown::Level),
+            _ => return Ok(Some(Unknown::Level)),
         };
         let Some(place) = RULES.iter().position(|about| about.name == name) else {
-            return Err(Unknown::Rule);
+            return Ok(Some(Unknown::Rule(nearest(alloc, name)?)));
         };
         if let Some(old) = self.0.get_mut(place) {
             *old = level;
         }
-        Ok(())
+        Ok(None)
+    }
+
+    /// Sets the level of a rule.
+    pub fn put(&mut self, rule: Rule, level: Level) {
+        for (old, about) in self.0.iter_mut().zip(&RULES) {
+            if about.rule == rule {
+                *old = level;
+            }
+        }
     }
 }

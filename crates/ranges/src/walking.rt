@@ -1,13 +1,18 @@
 //! The manifests of folders and of workspaces, and the files of arguments.
 
+use patterns::ignored::{Ignored, is_ignored};
+use patterns::paths::names_of;
+use patterns::workspaces::{Workspace, is_workspace};
 use std::alloc::{AllocError, Global};
+use std::collections::HashSet;
+use std::env::VarError;
 use std::io::{BufRead, ErrorKind, Read, Write};
 use std::rt::{Files, Runtime};
-use std::{fs, io};
+use std::{env, fs, io};
 use terminal::console::{Console, Status, Stop};
 use terminal::manifest::entries;
 use terminal::sections::Kind;
-use terminal::shown::Shown;
+use terminal::shown::{Quoted, Shown};
 
 // The names of manifests, in their order.
 const NAMES: [&str; 5] = [
@@ -23,13 +28,34 @@ const NAMES: [&str; 5] = [
 struct Folder {
     manifests: Vec<String>,
     folders: Vec<String>,
+    /// Whether a name in it isn't valid UTF-8.
+    has_other: bool,
 }
 
-/// What was found in folders.
+/// Manifests that were found together: in a folder and below it, or one that was given.
+#[derive(Drop)]
+pub struct Group {
+    pub paths: Vec<String>,
+    /// How many of them, the first, stand in the folder itself. The levels that these set count for all.
+    pub own: usize,
+    /// The patterns of workspaces in these that no folder matches.
+    pub unmatched: Vec<String>,
+}
+
+impl Group {
+    fn new(alloc: Global) -> Group {
+        Group {
+            paths: Vec::new(alloc),
+            own: 0,
+            unmatched: Vec::new(alloc),
+        }
+    }
+}
+
+/// What was found.
 #[derive(Drop)]
 pub struct Manifests {
-    /// The paths of manifests.
-    pub paths: Vec<String>,
+    pub groups: Vec<Group>,
     /// The status of what can't be read, or of nothing.
     pub status: Status,
 }
@@ -44,97 +70,6 @@ fn joined(alloc: Global, folder: &str, name: &str) -> Result<String, AllocError>
 }
 
 // ---- .gitignore
-
-// A line of a .gitignore.
-#[derive(Drop)]
-struct Ignored {
-    /// The folder below which it counts.
-    folder: String,
-    /// The names on the way to this folder from the one that the line speaks of.
-    lead: String,
-    pattern: String,
-}
-
-// The path of a file or a folder below another, if it is there.
-fn below<'p>(path: &'p str, folder: &str) -> Option<&'p str> {
-    if folder.is_empty() {
-        return Some(path);
-    }
-    let rest = path.strip_prefix(folder)?;
-    if folder.ends_with('/') {
-        Some(rest)
-    } else {
-        rest.strip_prefix('/')
-    }
-}
-
-impl Ignored {
-    // Whether the line ignores this path, or takes it again; none if it says nothing of it.
-    fn answer(
-        &self,
-        alloc: Global,
-        path: &str,
-        is_folder: bool,
-    ) -> Result<Option<bool>, AllocError> {
-        let Some(path) = below(path, self.folder.as_str()) else {
-            return Ok(None);
-        };
-        let pattern = self.pattern.as_str();
-        let bare = pattern.strip_prefix('!').unwrap_or(pattern);
-        let shape = bare.strip_suffix('/').unwrap_or(bare);
-        let is_match = if shape.len() < bare.len() && !is_folder {
-            false
-        } else if shape.contains('/') {
-            self.matches_below(alloc, shape, path)?
-        } else {
-            matches_name(shape, path.rsplit('/').next().unwrap_or(path))
-        };
-        Ok(if is_match {
-            Some(bare.len() == pattern.len())
-        } else {
-            None
-        })
-    }
-
-    // Whether a pattern with several names matches a path.
-    fn matches_below(&self, alloc: Global, shape: &str, path: &str) -> Result<bool, AllocError> {
-        let mut parts = names_of(alloc, shape)?;
-        if parts.last() == Some(&"**") {
-            // It matches all in a folder, and not the folder.
-            parts.push("*")?;
-        }
-        let mut names = names_of(alloc, self.lead.as_str())?;
-        for name in names_of(alloc, path)?.iter() {
-            names.push(*name)?;
-        }
-        Ok(matches_path(parts.as_slice(), names.as_slice()))
-    }
-}
-
-// Whether a path is ignored: the last line that says something of it counts.
-fn is_ignored(
-    alloc: Global,
-    ignored: &[Ignored],
-    path: &str,
-    is_folder: bool,
-) -> Result<bool, AllocError> {
-    for line in ignored.iter().rev() {
-        if let Some(answer) = line.answer(alloc, path, is_folder)? {
-            return Ok(answer);
-        }
-    }
-    Ok(false)
-}
-
-// A line of a .gitignore without the spaces at its end, but for one behind a `\`.
-fn without_spaces(line: &str) -> &str {
-    let bare = line.trim_end_matches(' ');
-    if bare.len() < line.len() && bare.ends_with('\\') {
-        line.get(..bare.len().saturating_add(1)).unwrap_or(bare)
-    } else {
-        bare
-    }
-}
 
 // Adds the lines of a .gitignore at this path, but for comments. They count below a folder, to which the names of `lead` lead.
 fn read_ignored<R: Runtime + AllocGlobal>(
@@ -155,19 +90,11 @@ fn read_ignored<R: Runtime + AllocGlobal>(
         .strip_prefix(b"\xef\xbb\xbf".as_slice())
         .unwrap_or(text);
     for line in text.split(|byte| *byte == b'\n') {
-        let Ok(line) = str::from_utf8(line) else {
-            continue;
-        };
-        let line = without_spaces(line.strip_suffix('\r').unwrap_or(line));
-        if line.is_empty() || line.starts_with('#') {
-            continue;
+        if let Ok(line) = str::from_utf8(line)
+            && let Some(line) = Ignored::new(alloc, folder, lead, line)?
+        {
+            ignored.push(line)?;
         }
-        let line = Ignored {
-            folder: String::from_str(alloc, folder)?,
-            lead: String::from_str(alloc, lead)?,
-            pattern: String::from_str(alloc, line)?,
-        };
-        ignored.push(line)?;
     }
     Ok(())
 }
@@ -194,7 +121,57 @@ fn path_of(alloc: Global, names: &[&str]) -> Result<String, AllocError> {
     Ok(path)
 }
 
-// What git ignores in a folder by files above it: the exclude file of its repository, and each .gitignore from there down.
+// The value of core.excludesFile in a file of git's settings.
+fn excludes_setting(settings: &str) -> Option<&str> {
+    let mut is_core = false;
+    let mut last = None;
+    for line in settings.lines().map(|line| line.trim()) {
+        if line.starts_with('[') {
+            is_core = line.eq_ignore_ascii_case("[core]");
+        } else if is_core
+            && let Some((name, value)) = line.split_once('=')
+            && name.trim().eq_ignore_ascii_case("excludesfile")
+        {
+            last = Some(value.trim().trim_matches('"'));
+        }
+    }
+    last
+}
+
+// The value of a variable of the environment; an empty one if it isn't set.
+fn variable<R: Runtime + AllocGlobal>(rt: &R, name: &str) -> io::Result<String> {
+    match env::var(rt, name) {
+        Ok(value) => Ok(value),
+        Err(VarError::OutOfMemory) => Err(io::Error::from(AllocError)),
+        Err(_) => Ok(String::new(rt.alloc())),
+    }
+}
+
+// The file of what the user ignores in all repositories: git's core.excludesFile, if ~/.gitconfig sets it, or git's own place for it.
+fn excludes_file<R: Runtime + AllocGlobal>(rt: &R) -> io::Result<String> {
+    let alloc = rt.alloc();
+    let home = variable(rt, "HOME")?;
+    let settings = format!(in alloc; "{home}/.gitconfig")?;
+    let settings = match fs::read_to_string(rt, settings.as_str()) {
+        Ok(settings) => settings,
+        Err(error) if error.kind() == ErrorKind::OutOfMemory => return Err(error),
+        Err(_) => String::new(alloc),
+    };
+    if let Some(file) = excludes_setting(settings.as_str()) {
+        return Ok(match file.strip_prefix("~/") {
+            Some(below) => format!(in alloc; "{home}/{below}")?,
+            None => String::from_str(alloc, file)?,
+        });
+    }
+    let config = variable(rt, "XDG_CONFIG_HOME")?;
+    if config.is_empty() {
+        format!(in alloc; "{home}/.config/git/ignore").map_err(io::Error::from)
+    } else {
+        format!(in alloc; "{config}/git/ignore").map_err(io::Error::from)
+    }
+}
+
+// What git ignores in a folder by files above it: the user's own, the exclude file of its repository, and each .gitignore from there down.
 fn ignored_above<R: Runtime + AllocGlobal>(rt: &R, folder: &str) -> io::Result<Vec<Ignored>> {
     let alloc = rt.alloc();
     let mut ignored = Vec::new(alloc);
@@ -209,45 +186,68 @@ fn ignored_above<R: Runtime + AllocGlobal>(rt: &R, folder: &str) -> io::Result<V
     let Some(top) = repository(rt, names)? else {
         return Ok(ignored);
     };
+    let lead = path_of(alloc, names.get(top..).unwrap_or(&[]))?;
+    let own = excludes_file(rt)?;
+    read_ignored(rt, own.as_str(), folder, lead.as_str(), &mut ignored)?;
+    let above = path_of(alloc, names.get(..top).unwrap_or(&[]))?;
+    let exclude = format!(in alloc; "{above}/.git/info/exclude")?;
+    read_ignored(rt, exclude.as_str(), folder, lead.as_str(), &mut ignored)?;
     for count in top..names.len() {
         let above = path_of(alloc, names.get(..count).unwrap_or(&[]))?;
         let lead = path_of(alloc, names.get(count..).unwrap_or(&[]))?;
-        let lead = lead.as_str();
-        if count == top {
-            let exclude = format!(in alloc; "{above}/.git/info/exclude")?;
-            read_ignored(rt, exclude.as_str(), folder, lead, &mut ignored)?;
-        }
         let file = format!(in alloc; "{above}/.gitignore")?;
-        read_ignored(rt, file.as_str(), folder, lead, &mut ignored)?;
-    }
-    if top == names.len() {
-        let exclude = joined(alloc, folder, ".git/info/exclude")?;
-        read_ignored(rt, exclude.as_str(), folder, "", &mut ignored)?;
+        read_ignored(rt, file.as_str(), folder, lead.as_str(), &mut ignored)?;
     }
     Ok(ignored)
 }
 
 // ---- folders
 
-// Lists a folder, by the order of names, but for what is ignored, also by its own .gitignore.
-fn list<R: Runtime + AllocGlobal>(
-    rt: &R,
-    folder: &str,
-    ignored: &mut Vec<Ignored>,
-) -> io::Result<Folder> {
+// What is left out of a folder: what git ignores, and what the arguments exclude.
+#[derive(Drop)]
+struct Left {
+    ignored: Vec<Ignored>,
+    excluded: Vec<Ignored>,
+}
+
+impl Left {
+    fn has(&self, alloc: Global, path: &str, is_folder: bool) -> Result<bool, AllocError> {
+        Ok(
+            is_ignored(alloc, self.excluded.as_slice(), path, is_folder)?
+                || is_ignored(alloc, self.ignored.as_slice(), path, is_folder)?,
+        )
+    }
+}
+
+// The patterns of --exclude.
+fn excluded(alloc: Global, patterns: &[&str]) -> Result<Vec<Ignored>, AllocError> {
+    let mut all = Vec::new(alloc);
+    for pattern in patterns {
+        if let Some(line) = Ignored::new(alloc, "", "", pattern)? {
+            all.push(line)?;
+        }
+    }
+    Ok(all)
+}
+
+// Lists a folder, by the order of names, but for what is left out, also by its own .gitignore.
+fn list<R: Runtime + AllocGlobal>(rt: &R, folder: &str, left: &mut Left) -> io::Result<Folder> {
     let alloc = rt.alloc();
     let file = joined(alloc, folder, ".gitignore")?;
-    read_ignored(rt, file.as_str(), folder, "", ignored)?;
+    read_ignored(rt, file.as_str(), folder, "", &mut left.ignored)?;
     let mut held = Folder {
         manifests: Vec::new(alloc),
         folders: Vec::new(alloc),
+        has_other: false,
     };
     let path = if folder.is_empty() { "." } else { folder };
     for entry in fs::read_dir(rt, path)? {
         let entry = match entry {
             Ok(entry) => entry,
-            // Its name isn't valid UTF-8, so it's no manifest.
-            Err(error) if error.kind() == ErrorKind::InvalidFilename => continue,
+            Err(error) if error.kind() == ErrorKind::InvalidFilename => {
+                held.has_other = true;
+                continue;
+            }
             Err(error) => return Err(error),
         };
         let name = entry.file_name();
@@ -258,7 +258,7 @@ fn list<R: Runtime + AllocGlobal>(
             continue;
         }
         let path = joined(alloc, folder, name)?;
-        if is_ignored(alloc, ignored.as_slice(), path.as_str(), is_folder)? {
+        if left.has(alloc, path.as_str(), is_folder)? {
             continue;
         }
         if is_folder {
@@ -283,8 +283,11 @@ fn complain<O: Write, E: Write>(
         ErrorKind::PermissionDenied => "permission denied",
         _ => "can't be read",
     };
-    let folder = if folder.is_empty() { "." } else { folder };
-    Ok(console.complain(Shown(folder), reason))
+    Ok(console.complain(Shown(shown_folder(folder)), reason))
+}
+
+fn shown_folder(folder: &str) -> &str {
+    if folder.is_empty() { "." } else { folder }
 }
 
 // A folder that isn't listed yet, and how many lines of what is ignored count there, without its own.
@@ -294,19 +297,42 @@ struct Waiting {
     ignored: usize,
 }
 
-// Finds the manifests in a folder and in those below it, but in none named `node_modules` or `.git`, nor in what git ignores. The
+// Lists a folder, or reports that it can't be read, or that a name in it can't.
+fn listed<R: Runtime + AllocGlobal, O: Write, E: Write>(
+    rt: &R,
+    console: &mut Console<O, E>,
+    folder: &str,
+    left: &mut Left,
+    status: &mut Status,
+) -> Result<Option<Folder>, Stop> {
+    match list(rt, folder, left) {
+        Ok(held) => {
+            if held.has_other {
+                let message = "passed over what has a name that isn't valid UTF-8";
+                let told = console.complain(Shown(shown_folder(folder)), message);
+                *status = status.worse(told);
+            }
+            Ok(Some(held))
+        }
+        Err(error) => {
+            *status = status.worse(complain(console, folder, &error)?);
+            Ok(None)
+        }
+    }
+}
+
+// Finds the manifests in a folder and in those below it, but in none named `node_modules` or `.git`, nor in what is left out. The
 // folder's own come first.
 fn manifests_in<R: Runtime + AllocGlobal, O: Write, E: Write>(
     rt: &R,
     console: &mut Console<O, E>,
     folder: &str,
-) -> Result<Manifests, Stop> {
+    excluded: Vec<Ignored>,
+    status: &mut Status,
+) -> Result<Group, Stop> {
     let alloc = console.alloc;
-    let mut found = Manifests {
-        paths: Vec::new(alloc),
-        status: Status::Answered,
-    };
-    let mut ignored = match ignored_above(rt, folder) {
+    let mut found = Group::new(alloc);
+    let ignored = match ignored_above(rt, folder) {
         Ok(ignored) => ignored,
         Err(_) => return Err(Stop::OutOfMemory),
     };
@@ -314,8 +340,9 @@ fn manifests_in<R: Runtime + AllocGlobal, O: Write, E: Write>(
         folder: String::from_str(alloc, folder)?,
         ignored: ignored.len(),
     };
+    let mut left = Left { ignored, excluded };
     let mut waiting = vec![in alloc; first]?;
-    for _ in 0..u64::MAX {
+    for turn in 0..u64::MAX {
         let Some(
             Waiting {
                 folder,
@@ -325,27 +352,27 @@ fn manifests_in<R: Runtime + AllocGlobal, O: Write, E: Write>(
         else {
             break;
         };
-        ignored.truncate(above);
-        match list(rt, folder.as_str(), &mut ignored) {
-            Ok(
-                Folder {
-                    manifests,
-                    mut folders,
-                },
-            ) => {
-                for path in manifests {
-                    found.paths.push(path)?;
-                }
-                for _ in 0..folders.len() {
-                    if let Some(folder) = folders.pop() {
-                        let ignored = ignored.len();
-                        waiting.push(Waiting { folder, ignored })?;
-                    }
-                }
-            }
-            Err(error) => {
-                let status = complain(console, folder.as_str(), &error)?;
-                found.status = found.status.worse(status);
+        left.ignored.truncate(above);
+        let Some(
+            Folder {
+                manifests,
+                mut folders,
+                ..
+            },
+        ) = listed(rt, console, folder.as_str(), &mut left, status)?
+        else {
+            continue;
+        };
+        for path in manifests {
+            found.paths.push(path)?;
+        }
+        if turn == 0 {
+            found.own = found.paths.len();
+        }
+        for _ in 0..folders.len() {
+            if let Some(folder) = folders.pop() {
+                let ignored = left.ignored.len();
+                waiting.push(Waiting { folder, ignored })?;
             }
         }
     }
@@ -354,197 +381,172 @@ fn manifests_in<R: Runtime + AllocGlobal, O: Write, E: Write>(
 
 // ---- workspaces
 
-// Whether a set such as `a-z_]` or `!a]`, in which `]` stands behind the last, has a byte, and what follows it; none if it doesn't end.
-fn in_set(set: &[u8], byte: u8) -> Option<(bool, &[u8])> {
-    let (is_without, members) = match set {
-        [b'!' | b'^', members @ ..] => (true, members),
-        members => (false, members),
-    };
-    // At the front `]` is a member.
-    let end = members
-        .iter()
-        .skip(1)
-        .position(|byte| *byte == b']')?
-        .saturating_add(1);
-    let (mut left, behind) = (members.get(..end)?, members.get(end.saturating_add(1)..)?);
-    let mut has = false;
-    for _ in 0..end {
-        let (first, last, rest) = match left {
-            [first, b'-', last, rest @ ..] => (*first, *last, rest),
-            [only, rest @ ..] => (*only, *only, rest),
-            [] => break,
-        };
-        // Of `b-a`, too, git takes the first.
-        has |= first == byte || first <= byte && byte <= last;
-        left = rest;
-    }
-    Some((has != is_without, behind))
-}
-
-// What follows in a pattern, if what it begins with takes this byte: itself, `?`, a set in brackets, or a byte behind `\`.
-fn behind_one(pattern: &[u8], byte: u8) -> Option<&[u8]> {
-    let (own, rest) = match pattern {
-        [b'?', rest @ ..] => return Some(rest),
-        [b'[', set @ ..] => {
-            return match in_set(set, byte) {
-                Some((true, rest)) => Some(rest),
-                _ => None,
-            };
-        }
-        [b'\\', own, rest @ ..] => (*own, rest),
-        [own, rest @ ..] => (*own, rest),
-        [] => return None,
-    };
-    if own == byte { Some(rest) } else { None }
-}
-
-// Whether a name matches a pattern, in which `*` stands for any text. As in git, bytes are compared.
-fn matches_name(pattern: &str, name: &str) -> bool {
-    let (mut pattern, mut name) = (pattern.as_bytes(), name.as_bytes());
-    // Where the pattern goes on behind the last `*`, and what it could have taken of the name.
-    let mut again = None;
-    for _ in 0..u64::MAX {
-        if let [b'*', behind @ ..] = pattern {
-            pattern = behind;
-            again = Some((behind, name));
-            continue;
-        }
-        let taken = match name {
-            [] if pattern.is_empty() => return true,
-            [] => None,
-            [byte, rest @ ..] => match behind_one(pattern, *byte) {
-                Some(behind) => Some((behind, rest)),
-                None => None,
-            },
-        };
-        if let Some((behind, rest)) = taken {
-            pattern = behind;
-            name = rest;
-            continue;
-        }
-        match again {
-            Some((behind, [_, rest @ ..])) => {
-                pattern = behind;
-                name = rest;
-                again = Some((behind, rest));
-            }
-            _ => return false,
-        }
-    }
-    false
-}
-
-// Whether the names of a path match a pattern, in which `**` stands for any number of names.
-fn matches_path(pattern: &[&str], names: &[&str]) -> bool {
-    let (mut at, mut taken) = (0usize, 0usize);
-    // Where the pattern goes on behind the last `**`, and the first name that it could take there.
-    let mut again = None;
-    for _ in 0..u64::MAX {
-        match (pattern.get(at), names.get(taken)) {
-            (None, None) => return true,
-            (Some(part), _) if *part == "**" => {
-                at = at.saturating_add(1);
-                again = Some((at, taken));
-            }
-            (Some(part), Some(name)) if matches_name(part, name) => {
-                at = at.saturating_add(1);
-                taken = taken.saturating_add(1);
-            }
-            (_, _) => match again {
-                Some((behind, first)) if first < names.len() => {
-                    at = behind;
-                    taken = first.saturating_add(1);
-                    again = Some((at, taken));
-                }
-                _ => return false,
-            },
-        }
-    }
-    false
-}
-
-// The names of a path.
-fn names_of<'p>(alloc: Global, path: &'p str) -> Result<Vec<&'p str>, AllocError> {
-    let mut names = Vec::new(alloc);
-    for name in path.split('/') {
-        if !matches!(name, "" | ".") {
-            names.push(name)?;
-        }
-    }
-    Ok(names)
-}
-
-// Whether a folder is a workspace by these patterns; one behind `!` leaves folders out.
-fn is_workspace(alloc: Global, patterns: &[String], folder: &str) -> Result<bool, AllocError> {
-    let names = names_of(alloc, folder)?;
-    let mut is_in = false;
-    for pattern in patterns {
-        let pattern = pattern.as_str();
-        let bare = pattern.strip_prefix('!');
-        let parts = names_of(alloc, bare.unwrap_or(pattern))?;
-        if matches_path(parts.as_slice(), names.as_slice()) {
-            is_in = bare.is_none();
-        }
-    }
-    Ok(is_in)
-}
-
-// The patterns of workspaces that a manifest names; one that can't be read names none.
-fn patterns_of<R: Runtime + AllocGlobal>(rt: &R, path: &str) -> Result<Vec<String>, Stop> {
-    let alloc = rt.alloc();
-    let mut patterns = Vec::new(alloc);
+// Adds the patterns of workspaces that a manifest names; one that can't be read names none.
+fn add_workspaces<R: Runtime + AllocGlobal, O: Write, E: Write>(
+    rt: &R,
+    console: &mut Console<O, E>,
+    path: &str,
+    workspaces: &mut Vec<Workspace>,
+) -> Result<Status, Stop> {
+    let alloc = console.alloc;
     let text = match fs::read_to_string(rt, path) {
         Ok(text) => text,
         Err(error) if error.kind() == ErrorKind::OutOfMemory => return Err(Stop::OutOfMemory),
-        Err(_) => return Ok(patterns),
+        Err(_) => return Ok(Status::Answered),
     };
-    for entry in entries(alloc, path, text.as_str())? {
-        if entry.kind == Kind::Workspace {
-            patterns.push(entry.text)?;
+    let mut status = Status::Answered;
+    let entries = entries(alloc, path, text.as_str())?;
+    for entry in entries.iter().filter(|entry| entry.kind == Kind::Workspace) {
+        match Workspace::new(alloc, entry.text.as_str())? {
+            Some(workspace) => workspaces.push(workspace)?,
+            None => {
+                let subject = format_args!("{}: {}", Shown(path), Quoted(entry.text.as_str()));
+                let message = "its braces stand for more than 1000 patterns";
+                status = status.worse(console.complain(subject, message));
+            }
         }
     }
-    Ok(patterns)
+    Ok(status)
 }
 
 // Finds the manifests of this folder, and those of its workspaces.
 fn manifests_here<R: Runtime + AllocGlobal, O: Write, E: Write>(
     rt: &R,
     console: &mut Console<O, E>,
-) -> Result<Manifests, Stop> {
+    excludes: &[&str],
+    status: &mut Status,
+) -> Result<Group, Stop> {
     let alloc = console.alloc;
-    let mut found = Manifests {
-        paths: match list(rt, "", &mut Vec::new(alloc)) {
-            Ok(Folder { manifests, .. }) => manifests,
-            Err(error) => {
-                return Ok(Manifests {
-                    paths: Vec::new(alloc),
-                    status: complain(console, "", &error)?,
-                });
-            }
-        },
-        status: Status::Answered,
+    let mut found = Group::new(alloc);
+    let mut left = Left {
+        ignored: Vec::new(alloc),
+        excluded: excluded(alloc, excludes)?,
     };
-    let mut patterns = Vec::new(alloc);
-    for path in found.paths.iter() {
-        for pattern in patterns_of(rt, path.as_str())? {
-            patterns.push(pattern)?;
+    match list(rt, "", &mut left) {
+        Ok(Folder { manifests, .. }) => found.paths = manifests,
+        Err(error) => {
+            *status = complain(console, "", &error)?;
+            return Ok(found);
         }
     }
-    if patterns.is_empty() {
+    found.own = found.paths.len();
+    let mut workspaces = Vec::new(alloc);
+    for path in found.paths.iter() {
+        let told = add_workspaces(rt, console, path.as_str(), &mut workspaces)?;
+        *status = status.worse(told);
+    }
+    if workspaces.is_empty() {
         return Ok(found);
     }
-    let Manifests { paths, status } = manifests_in(rt, console, "")?;
-    found.status = status;
-    for path in paths {
+    // A pattern may name this folder itself.
+    let _ = is_workspace(alloc, workspaces.as_mut_slice(), "")?;
+    let below = manifests_in(rt, console, "", excluded(alloc, excludes)?, status)?;
+    for path in below.paths {
         let is_member = match path.as_str().rsplit_once('/') {
-            Some((folder, _)) => is_workspace(alloc, patterns.as_slice(), folder)?,
+            Some((folder, _)) => is_workspace(alloc, workspaces.as_mut_slice(), folder)?,
             None => false,
         };
         if is_member {
             found.paths.push(path)?;
         }
     }
+    for workspace in workspaces {
+        if excludes.is_empty() && !workspace.has_match && !workspace.is_without {
+            found.unmatched.push(workspace.text)?;
+        }
+    }
     Ok(found)
+}
+
+// ---- import maps
+
+// A path without `.`, and without `..` behind a name.
+fn normalized(alloc: Global, path: &str) -> Result<String, AllocError> {
+    let mut kept: Vec<&str> = Vec::new(alloc);
+    for name in names_of(alloc, path)?.iter() {
+        let is_back = *name == ".." && kept.last().is_some_and(|last| *last != "..");
+        if is_back {
+            let _ = kept.pop();
+        } else {
+            kept.push(*name)?;
+        }
+    }
+    let mut whole = String::from_str(alloc, if path.starts_with('/') { "/" } else { "" })?;
+    let mut separator = "";
+    for name in kept.iter() {
+        whole.push_str(separator)?;
+        whole.push_str(name)?;
+        separator = "/";
+    }
+    Ok(whole)
+}
+
+// The folder of a path, with what ends it, and the name.
+fn split_path(path: &str) -> (&str, &str) {
+    let start = match path.rfind('/') {
+        Some(slash) => slash.saturating_add(1),
+        None => 0,
+    };
+    path.split_at_checked(start).unwrap_or(("", path))
+}
+
+// Whether a file may name an import map.
+fn is_of_deno(path: &str) -> bool {
+    matches!(split_path(path).1, "deno.json" | "deno.jsonc")
+}
+
+// The path of the import map that Deno's manifest names, unless that is a URL.
+fn import_map_of<R: Runtime + AllocGlobal>(rt: &R, path: &str) -> Result<Option<String>, Stop> {
+    let alloc = rt.alloc();
+    let text = match fs::read_to_string(rt, path) {
+        Ok(text) => text,
+        Err(error) if error.kind() == ErrorKind::OutOfMemory => return Err(Stop::OutOfMemory),
+        Err(_) => return Ok(None),
+    };
+    let entries = entries(alloc, path, text.as_str())?;
+    let Some(entry) = entries.iter().find(|entry| entry.kind == Kind::ImportMap) else {
+        return Ok(None);
+    };
+    let named = entry.text.as_str();
+    if named.contains("://") || named.starts_with("data:") {
+        return Ok(None);
+    }
+    let (folder, _) = split_path(path);
+    let whole = if named.starts_with('/') {
+        normalized(alloc, named)?
+    } else {
+        normalized(alloc, format!(in alloc; "{folder}{named}")?.as_str())?
+    };
+    Ok(Some(whole))
+}
+
+// Adds the import maps that manifests of Deno name, each once.
+fn add_import_maps<R: Runtime + AllocGlobal>(rt: &R, groups: &mut [Group]) -> Result<(), Stop> {
+    let alloc = rt.alloc();
+    let is_of_deno_any = |group: &Group| group.paths.iter().any(|path| is_of_deno(path.as_str()));
+    if !groups.iter().any(is_of_deno_any) {
+        return Ok(());
+    }
+    let mut known = HashSet::new(alloc);
+    for group in groups.iter() {
+        for path in group.paths.iter() {
+            let _ = known.insert(normalized(alloc, path.as_str())?)?;
+        }
+    }
+    for group in groups.iter_mut() {
+        let mut added = Vec::new(alloc);
+        for path in group.paths.iter().filter(|path| is_of_deno(path.as_str())) {
+            if let Some(map) = import_map_of(rt, path.as_str())?
+                && known.insert(map.clone()?)?
+            {
+                added.push(map)?;
+            }
+        }
+        for map in added {
+            group.paths.push(map)?;
+        }
+    }
+    Ok(())
 }
 
 // ---- arguments
@@ -577,37 +579,42 @@ pub fn read_file<R: Input + Files + AllocGlobal, O: Write, E: Write>(
     Err(Stop::Ended(console.complain(Shown(file), reason)))
 }
 
-/// The paths to check: of the files, and of the manifests of folders; without any, of this folder and its workspaces.
-pub fn paths<R: Runtime + AllocGlobal, O: Write, E: Write>(
+/// The manifests to check: the files, and those in folders, but for what is excluded; without any, those of this folder and its workspaces.
+pub fn find<R: Runtime + AllocGlobal, O: Write, E: Write>(
     rt: &R,
     console: &mut Console<O, E>,
     files: Option<&[&str]>,
+    excludes: &[&str],
 ) -> Result<Manifests, Stop> {
-    let Some(files) = files else {
-        let found = manifests_here(rt, console)?;
-        return Ok(with_something(console, ".", found));
-    };
+    let alloc = console.alloc;
     let mut all = Manifests {
-        paths: Vec::new(console.alloc),
+        groups: Vec::new(alloc),
         status: Status::Answered,
     };
-    for file in files {
+    if files.is_none() {
+        let mut status = Status::Answered;
+        let found = manifests_here(rt, console, excludes, &mut status)?;
+        all.status = with_something(console, ".", &found, status);
+        all.groups.push(found)?;
+    }
+    for file in files.unwrap_or(&[]) {
         let is_folder = match fs::metadata(rt, *file) {
             Ok(data) => data.is_dir() && *file != "-",
             Err(error) if error.kind() == ErrorKind::OutOfMemory => return Err(Stop::OutOfMemory),
             Err(_) => false,
         };
-        if !is_folder {
-            all.paths.push(String::from_str(console.alloc, file)?)?;
-            continue;
+        let mut found = Group::new(alloc);
+        if is_folder {
+            let mut status = Status::Answered;
+            found = manifests_in(rt, console, file, excluded(alloc, excludes)?, &mut status)?;
+            let status = with_something(console, file, &found, status);
+            all.status = all.status.worse(status);
+        } else {
+            found.paths.push(String::from_str(alloc, file)?)?;
         }
-        let found = manifests_in(rt, console, file)?;
-        let found = with_something(console, file, found);
-        all.status = all.status.worse(found.status);
-        for path in found.paths {
-            all.paths.push(path)?;
-        }
+        all.groups.push(found)?;
     }
+    add_import_maps(rt, all.groups.as_mut_slice())?;
     Ok(all)
 }
 
@@ -615,15 +622,13 @@ pub fn paths<R: Runtime + AllocGlobal, O: Write, E: Write>(
 fn with_something<O: Write, E: Write>(
     console: &mut Console<O, E>,
     folder: &str,
-    found: Manifests,
-) -> Manifests {
-    if !found.paths.is_empty() || found.status != Status::Answered {
-        return found;
+    found: &Group,
+    status: Status,
+) -> Status {
+    if !found.paths.is_empty() || status != Status::Answered {
+        return status;
     }
     let message =
         "no package.json, deno.json, import_map.json or pnpm-workspace.yaml in this folder";
-    Manifests {
-        status: console.complain(Shown(folder), message),
-        ..found
-    }
+    console.complain(Shown(folder), message)
 }

@@ -183,7 +183,7 @@ const CANONICAL: Argument = Argument {
 const RULE: Argument = Argument {
     name: "rule",
     form: Form::Values("NAME=LEVEL"),
-    help: "Set a rule's level: off, warn or error",
+    help: "Set a rule's level: off, warn (or warning) or error",
 };
 
 const STRICT: Argument = Argument {
@@ -207,7 +207,22 @@ const FIX: Argument = Argument {
 const DRY_RUN: Argument = Argument {
     name: "dry-run",
     form: Form::Flag(None, &["json", "github", "sarif"]),
-    help: "Print what --fix changes, as a unified diff",
+    help: "Print what --fix changes, as a unified diff, and on standard error what it leaves",
+};
+
+const EXCLUDE: Argument = Argument {
+    name: "exclude",
+    form: Form::Values("PATTERN"),
+    help: "In folders, leave out what matches, as a line of .gitignore does; files that you name stay",
+};
+
+const LIST: Argument = Argument {
+    name: "files",
+    form: Form::Flag(
+        None,
+        &["json", "github", "sarif", "canonical", "fix", "dry-run"],
+    ),
+    help: "Print the files to check, and check nothing",
 };
 
 const RANGE: Argument = Argument {
@@ -359,7 +374,7 @@ const ON_FILES: &[Entry] = &[
         name: "check",
         about: "Check the ranges of package.json, deno.json and import maps",
         arguments: &[
-            JSON, GITHUB, SARIF, CANONICAL, FIX, DRY_RUN, RULE, STRICT, QUIET, FILES,
+            JSON, GITHUB, SARIF, CANONICAL, FIX, DRY_RUN, EXCLUDE, LIST, RULE, STRICT, QUIET, FILES,
         ],
         examples: "\
 Examples:
@@ -367,13 +382,14 @@ Examples:
   ranges check --rule any-zero=off --rule no-match=error packages
   ranges check --strict --canonical packages/*/package.json
   ranges check --fix --dry-run
+  ranges check --exclude fixtures --files .
 
 Rules: any-zero, contained-alternative, disjoint-sections, dropped-alternative, duplicate-key, empty-alternative,
-ignored-comparator, no-match, npm-differs, odd-engine, odd-path, odd-tag, and off if nothing sets them,
-meta-without-range, not-canonical, pre-release-bound.
+ignored-comparator, no-match, npm-differs, odd-engine, odd-path, odd-tag, unmatched-workspace, and off if nothing
+sets them, meta-without-range, not-canonical, pre-release-bound. A rule at the level warn prints a warning.
 
 Exit status: 0 no error; 1 an error, or with --strict a warning, or --dry-run prints a change; 2 unknown arguments;
-3 a file can't be read or written.",
+3 a file can't be read or written; 5 out of memory; 6 output can't be written. Only other commands end with 4.",
     },
     Entry {
         name: "asked",

@@ -119,10 +119,13 @@ impl Collector {
             Some(first) => first.as_str(),
             None => key,
         };
+        let is_import_map = matches!(first, "imports" | "scopes");
         match self.format {
             // pnpm passes over a section without a value.
             Format::Yaml => shape != Shape::Null || !self.path.is_empty(),
-            Format::Package if first == "imports" || first == "scopes" => false,
+            Format::Package if is_import_map => false,
+            // Deno takes `null` for none.
+            _ if self.path.is_empty() && shape == Shape::Null && is_import_map => false,
             // The keys of Node's imports.
             _ if first == "imports" && key.starts_with('#') => false,
             _ => place.is_strict,
@@ -190,7 +193,8 @@ impl Collector {
         }
         let is_engines = self.path.is_empty() && self.key.as_deref() == Some("engines");
         let kind = match misplaced(shape, place, is_engines) {
-            Some(_) if shape == Shape::Other && self.format == Format::Yaml => {
+            Some(_)
+                if shape == Shape::Other && self.format == Format::Yaml && place.text.is_some() => {
                 Kind::Mistake("not a text to YAML: write it in quotes")
             }
             Some(kind) => kind,

@@ -174,6 +174,8 @@ pub const END: &str = "\x1b[0m";
 pub struct Terminal {
     /// Whether standard input is one, where somebody types.
     pub reads: bool,
+    /// Whether standard output is one, where somebody reads.
+    pub writes: bool,
     pub out: Style,
     pub err: Style,
 }
@@ -187,9 +189,9 @@ impl Terminal {
             _ => return self,
         };
         Terminal {
-            reads: self.reads,
             out: style,
             err: style,
+            ..self
         }
     }
 }
@@ -261,6 +263,37 @@ impl<O: Write, E: Write> Console<O, E> {
     pub fn question(&mut self, tag: &str) {
         if let Some(question) = question(tag) {
             self.ask("tag", tag, question);
+        }
+    }
+
+    /// Ends a part of the output, which a terminal shows at once.
+    pub fn end_part(&mut self) -> Result<(), Stop> {
+        if self.terminal.writes {
+            self.out.flush()?;
+        }
+        Ok(())
+    }
+
+    /// A console that prints on standard error.
+    pub fn on_error(&mut self) -> Console<&mut E, io::Sink> {
+        let terminal = Terminal {
+            out: self.terminal.err,
+            ..self.terminal
+        };
+        Console::new(
+            self.alloc,
+            &mut self.err,
+            io::sink(),
+            terminal,
+            self.options,
+        )
+    }
+
+    /// Says on standard error what was done, unless the command is quiet.
+    pub fn tell<T: Display + Drop>(&mut self, message: T) {
+        if !self.options.quiet {
+            let _ = self.out.flush();
+            let _ = writeln!(self.err, "ranges: {message}");
         }
     }
 

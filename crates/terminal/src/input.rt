@@ -209,6 +209,7 @@ pub fn take_all<R: Input, O: Write, E: Write, T: Take>(
         }
         is_front &= line.as_slice().trim_ascii().is_empty();
         status = status.worse(take_line(console, taker, number, line.as_slice())?);
+        console.end_part()?;
     }
     Ok(status)
 }

@@ -126,11 +126,12 @@ fn of_text(alloc: Global, file: &str, format: Format) -> Result<Vec<Entry>, Allo
             for (index, c) in file.char_indices() {
                 scanner.step(index, c)?;
             }
+            let Scanner { collector, .. } = scanner;
             let Collector {
                 is_lockfile,
                 entries,
                 ..
-            } = scanner.collector;
+            } = collector;
             if !is_lockfile {
                 return Ok(entries);
             }

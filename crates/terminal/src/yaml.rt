@@ -149,7 +149,7 @@ fn unread(c: char) -> Option<&'static str> {
         '&' => "an anchor isn't read: leave it out",
         '*' => "YAML takes it for an alias: write it in quotes, or what it stands for",
         '!' => "a type isn't read: leave it out",
-        '|' | '>' => "YAML takes it for the head of a text: write it in quotes",
+        '|' | '>' => "YAML takes it for the start of a text: write it in quotes",
         _ => return None,
     })
 }
@@ -614,7 +614,8 @@ pub fn entries_of_yaml(alloc: Global, file: &str) -> Result<Vec<Entry>, AllocErr
         collector: Collector::new(alloc, Format::Yaml),
     };
     let read = reader.read();
-    let mut entries = reader.collector.entries;
+    let Reader { collector, .. } = reader;
+    let Collector { mut entries, .. } = collector;
     match read {
         Ok(()) => Ok(entries),
         Err(Stop::OutOfMemory) => Err(AllocError),
