@@ -343,7 +343,7 @@ impl Edit<'_> {
 }
 
 // A file with better ranges. Its other bytes stay.
-fn rewritten(
+fn with_fixes(
     alloc: Global,
     path: &str,
     old: String,
@@ -630,7 +630,7 @@ pub fn rewrite<R: Input + Files + AllocGlobal, O: Write, E: Write>(
             shared = levels;
         }
         apply(alloc, &mut levels, settings)?;
-        all.push(rewritten(alloc, path, old, entries.as_slice(), &levels)?)?;
+        all.push(with_fixes(alloc, path, old, entries.as_slice(), &levels)?)?;
     }
     Ok(all)
 }
