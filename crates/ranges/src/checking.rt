@@ -436,11 +436,25 @@ struct Names<'e> {
     peers: HashSet<&'e str>,
 }
 
+// What is checked: a file, and what holds for it.
+#[derive(Clone, Copy)]
+struct Checked<'f> {
+    path: &'f str,
+    text: &'f str,
+    /// Whether the levels that it sets count for all files of its group.
+    is_own: bool,
+    /// The patterns of workspaces in the group's own files that no folder matches.
+    unmatched: &'f [String],
+    /// The settings of the arguments.
+    settings: &'f [&'f str],
+}
+
 // Checks an entry.
 fn check_entry<'e, O: Write, E: Write>(
     console: &mut Console<O, E>,
     report: &mut Report<'_>,
     names: &mut Names<'e>,
+    file: Checked<'_>,
     entry: &'e Entry,
 ) -> Result<(), Stop> {
     match entry.kind {
@@ -475,7 +489,7 @@ fn check_entry<'e, O: Write, E: Write>(
         }
         Kind::Odd(message) => report.add(console, entry, Finding::by(Rule::OddEngine, message)),
         Kind::Mistake(message) => report.add(console, entry, Finding::new(Cause::Refused, message)),
-        Kind::Workspace if report.unmatched.contains(&entry.text) => {
+        Kind::Workspace if file.is_own && file.unmatched.contains(&entry.text) => {
             let message = "no folder with a manifest matches it";
             report.add(
                 console,
@@ -517,7 +531,7 @@ fn set_levels<O: Write, E: Write>(
 fn check_entries<O: Write, E: Write>(
     console: &mut Console<O, E>,
     report: &mut Report<'_>,
-    text: &str,
+    file: Checked<'_>,
     entries: &[Entry],
 ) -> Result<(), Stop> {
     let mut names = Names {
@@ -531,37 +545,24 @@ fn check_entries<O: Write, E: Write>(
         let _ = names.peers.insert(entry.name.as_str())?;
     }
     for entry in entries {
-        report.position.move_to(text, entry.start);
-        check_entry(console, report, &mut names, entry)?;
+        report.position.move_to(report.text, entry.start);
+        check_entry(console, report, &mut names, file, entry)?;
     }
     Ok(())
 }
 
-// What is checked: a file, and what holds for it.
-#[derive(Clone, Copy)]
-struct Checked<'f> {
-    path: &'f str,
-    text: &'f str,
-    /// Whether the levels that it sets count for all files of its group.
-    is_own: bool,
-    /// The settings of the arguments.
-    settings: &'f [&'f str],
-}
-
 // Checks the text of a file. The report has the levels of the group, and takes those of the group's own files.
-fn check_text<'r, O: Write, E: Write>(
+fn check_text<O: Write, E: Write>(
     console: &mut Console<O, E>,
-    group: &mut Report<'r>,
+    group: &mut Report<'_>,
     file: Checked<'_>,
 ) -> Result<Status, Stop> {
     // Some programs begin UTF-8 with a byte order mark.
     let text = file.text.strip_prefix('\u{feff}').unwrap_or(file.text);
     let entries = entries(console.alloc, file.path, text)?;
-    let unmatched = if file.is_own { group.unmatched } else { &[] };
     let mut report = Report {
         file: file.path,
         text,
-        unmatched,
         ..*group
     };
     set_levels(console, &mut report, entries.as_slice())?;
@@ -569,7 +570,7 @@ fn check_text<'r, O: Write, E: Write>(
         group.levels = report.levels;
     }
     apply(console.alloc, &mut report.levels, file.settings)?;
-    check_entries(console, &mut report, text, entries.as_slice())?;
+    check_entries(console, &mut report, file, entries.as_slice())?;
     console.end_part()?;
     Ok(report.status)
 }
@@ -616,16 +617,14 @@ fn check_group<R: Input + Files + AllocGlobal, O: Write, E: Write>(
     group: &Group,
     settings: &[&str],
 ) -> Result<Status, Stop> {
-    let mut report = Report {
-        unmatched: group.unmatched.as_slice(),
-        ..*report
-    };
+    let mut report = *report;
     let mut status = Status::Answered;
     for (place, path) in group.paths.iter().enumerate() {
         let file = Checked {
             path: path.as_str(),
             text: "",
             is_own: place < group.own,
+            unmatched: group.unmatched.as_slice(),
             settings,
         };
         status = status.worse(check_file(rt, console, &mut report, file)?);
@@ -641,16 +640,14 @@ fn check_rewritten<O: Write, E: Write>(
     files: &[Rewritten],
     settings: &[&str],
 ) -> Result<Status, Stop> {
-    let mut report = Report {
-        unmatched: group.unmatched.as_slice(),
-        ..*report
-    };
+    let mut report = *report;
     let mut status = Status::Answered;
     for (place, file) in files.iter().enumerate() {
         let file = Checked {
             path: file.path.as_str(),
             text: file.new.as_str(),
             is_own: place < group.own,
+            unmatched: group.unmatched.as_slice(),
             settings,
         };
         status = status.worse(check_text(console, &mut report, file)?);

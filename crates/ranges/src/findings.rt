@@ -127,8 +127,6 @@ pub struct Report<'r> {
     /// The text of the file.
     pub text: &'r str,
     pub position: Position,
-    /// The patterns of workspaces in the file that no folder matches.
-    pub unmatched: &'r [String],
     pub status: Status,
     /// The status of a warning.
     pub warning: Status,
@@ -183,7 +181,6 @@ impl<'r> Report<'r> {
             file: "-",
             text: "",
             position: Position::START,
-            unmatched: &[],
             status: Status::Answered,
             warning,
         }

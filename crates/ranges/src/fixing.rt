@@ -518,11 +518,18 @@ fn remove_all<R: Files>(rt: &R, targets: &[Target]) {
 }
 
 // The first file that isn't any more what it was when it was read.
-fn first_changed<'t, R: Files + AllocGlobal>(rt: &R, targets: &'t [Target]) -> Option<&'t Target> {
-    targets.iter().find(|target| match fs::read_to_string(rt, target.spot.real.as_str()) {
-        Ok(text) => text.as_str() != target.file.old.as_str(),
-        Err(_) => true,
-    })
+fn first_changed<'t, R: Files + AllocGlobal>(
+    rt: &R,
+    targets: &'t [Target],
+) -> Result<Option<&'t Target>, Stop> {
+    for target in targets {
+        match fs::read_to_string(rt, target.spot.real.as_str()) {
+            Ok(text) if text.as_str() == target.file.old.as_str() => (),
+            Err(error) if error.kind() == ErrorKind::OutOfMemory => return Err(Stop::OutOfMemory),
+            Ok(_) | Err(_) => return Ok(Some(target)),
+        }
+    }
+    Ok(None)
 }
 
 // Writes all new files beside the old ones, or none, and reports what can't be written, or has changed.
@@ -537,12 +544,17 @@ fn write_beside<R: Files + AllocGlobal, O: Write, E: Write>(
             return complain(console, file.path.as_str(), &error);
         }
     }
-    let Some(changed) = first_changed(rt, targets) else {
-        return Ok(Status::Answered);
-    };
-    remove_all(rt, targets);
-    let message = "changed since it was read: no file is rewritten";
-    Ok(console.complain(Shown(changed.file.path.as_str()), message))
+    let changed = first_changed(rt, targets);
+    if !matches!(changed, Ok(None)) {
+        remove_all(rt, targets);
+    }
+    Ok(match changed? {
+        Some(target) => {
+            let message = "changed since it was read: no file is rewritten";
+            console.complain(Shown(target.file.path.as_str()), message)
+        }
+        None => Status::Answered,
+    })
 }
 
 /// Writes all files that were rewritten, or none, and says how many ranges of how many files, or reports what can't be written.

@@ -127,14 +127,22 @@ fn take_json<I: BufRead, O: Write, E: Write, T: Take>(
     let Ok(text) = str::from_utf8(without_mark(line.as_slice())) else {
         return Ok(console.complain("standard input", "not valid UTF-8"));
     };
-    let json = match Value::from_str(console.alloc, text) {
-        Ok(json) => json,
-        Err(error) if error.is_memory() => return Err(Stop::OutOfMemory),
+    match Value::from_str(console.alloc, text) {
+        Ok(json) => take_items(console, taker, &json),
+        Err(error) if error.is_memory() => Err(Stop::OutOfMemory),
         Err(error) => {
             let number = number.saturating_add(error.line() as u64).saturating_sub(1);
-            return Ok(console.complain(format_args!("line {number}"), "not valid JSON"));
+            Ok(console.complain(format_args!("line {number}"), "not valid JSON"))
         }
-    };
+    }
+}
+
+// Takes the items of a JSON array of texts.
+fn take_items<O: Write, E: Write, T: Take>(
+    console: &mut Console<O, E>,
+    taker: &mut T,
+    json: &Value,
+) -> Result<Status, Stop> {
     let Some(items) = json.as_array() else {
         return Ok(console.complain("standard input", "expected a JSON array of versions"));
     };
@@ -174,25 +182,38 @@ pub(crate) fn unread<O: Write, E: Write>(console: &mut Console<O, E>, error: io:
     }
 }
 
-/// Takes each of the arguments, or without any and for `-` each line of standard input, or all of that if it begins with a
-/// JSON array or object. The status is that of invalid arguments if
-/// one isn't a version.
-pub fn take_all<R: Input, O: Write, E: Write, T: Take>(
-    rt: &R,
+// Takes each of the arguments.
+fn take_arguments<O: Write, E: Write, T: Take>(
     console: &mut Console<O, E>,
-    arguments: Option<&[&str]>,
+    arguments: &[&str],
     taker: &mut T,
 ) -> Result<Status, Stop> {
-    let arguments = arguments.unwrap_or(&[]);
     let mut status = Status::Answered;
-    if !arguments.is_empty() && arguments != ["-"].as_slice() {
-        for text in arguments {
-            status = status.worse(take_one(console, taker, text, Place::Argument)?);
-        }
-        return Ok(status);
+    for text in arguments {
+        status = status.worse(take_one(console, taker, text, Place::Argument)?);
     }
-    console.announce("versions");
-    let mut input = BufReader::new(console.alloc, rt.reader())?;
+    Ok(status)
+}
+
+// Takes a line, and shows what it gave on a terminal.
+fn answer_line<O: Write, E: Write, T: Take>(
+    console: &mut Console<O, E>,
+    taker: &mut T,
+    number: u64,
+    line: &[u8],
+) -> Result<Status, Stop> {
+    let status = take_line(console, taker, number, line)?;
+    console.end_part()?;
+    Ok(status)
+}
+
+// Takes each line of the input, or all of it if it begins with a JSON array or object.
+fn take_lines<I: BufRead, O: Write, E: Write, T: Take>(
+    console: &mut Console<O, E>,
+    input: &mut I,
+    taker: &mut T,
+) -> Result<Status, Stop> {
+    let mut status = Status::Answered;
     let end = if console.options.null { 0 } else { b'\n' };
     let mut line = Vec::new(console.alloc);
     let mut is_front = true;
@@ -205,11 +226,28 @@ pub fn take_all<R: Input, O: Write, E: Write, T: Take>(
         }
         let text = without_mark(line.as_slice()).trim_ascii_start();
         if is_front && matches!(text, [b'[' | b'{', ..]) {
-            return take_json(console, taker, &mut input, number, &mut line);
+            return take_json(console, taker, input, number, &mut line);
         }
         is_front &= line.as_slice().trim_ascii().is_empty();
-        status = status.worse(take_line(console, taker, number, line.as_slice())?);
-        console.end_part()?;
+        status = status.worse(answer_line(console, taker, number, line.as_slice())?);
     }
     Ok(status)
+}
+
+/// Takes each of the arguments, or without any and for `-` each line of standard input, or all of that if it begins with a
+/// JSON array or object. The status is that of invalid arguments if
+/// one isn't a version.
+pub fn take_all<R: Input, O: Write, E: Write, T: Take>(
+    rt: &R,
+    console: &mut Console<O, E>,
+    arguments: Option<&[&str]>,
+    taker: &mut T,
+) -> Result<Status, Stop> {
+    let arguments = arguments.unwrap_or(&[]);
+    if !arguments.is_empty() && arguments != ["-"].as_slice() {
+        return take_arguments(console, arguments, taker);
+    }
+    console.announce("versions");
+    let mut input = BufReader::new(console.alloc, rt.reader())?;
+    take_lines(console, &mut input, taker)
 }

@@ -485,13 +485,13 @@ impl<'t> Reader<'t> {
     }
 
     // Takes a key.
-    fn flow_key(&mut self, c: char) -> Result<(), Stop> {
+    fn flow_key(&mut self, c: char) -> Result<Next, Stop> {
         let start = self.at;
         if matches!(c, '"' | '\'') {
             let Quoted { text, length, .. } = self.quoted_at(start)?;
             self.collector.take_key(text, start.saturating_add(1))?;
             self.take(length);
-            return Ok(());
+            return Ok(Next::Colon);
         }
         let text = self.plain();
         if text.is_empty() || unread(c).is_some() || text.starts_with("? ") {
@@ -503,36 +503,51 @@ impl<'t> Reader<'t> {
         let key = String::from_str(self.alloc, text)?;
         self.collector.take_key(key, start)?;
         self.take(text.len());
-        Ok(())
+        Ok(Next::Colon)
+    }
+
+    // Opens a mapping or a list.
+    fn open_flow(&mut self, is_list: bool) -> Result<Next, Stop> {
+        let shape = if is_list { Shape::Array } else { Shape::Object };
+        let _ = self.collector.begin(shape, self.at)?;
+        self.collector.open(is_list)?;
+        self.take(1);
+        Ok(self.first())
+    }
+
+    // Closes a mapping or a list.
+    fn close_flow(&mut self) -> Next {
+        self.collector.close();
+        self.take(1);
+        Next::Comma
+    }
+
+    // Takes a text as the next value.
+    fn flow_text(&mut self, c: char) -> Result<Next, Stop> {
+        if matches!(c, '"' | '\'') {
+            self.quoted_value()?;
+            return Ok(Next::Comma);
+        }
+        let text = self.plain();
+        if text.is_empty() {
+            return Err(self.mistake(INVALID));
+        }
+        self.plain_value(text)?;
+        Ok(Next::Comma)
     }
 
     // Takes the next character but whitespace, or the text that begins with it.
     fn token(&mut self, c: char, next: Next) -> Result<Next, Stop> {
         let is_array = self.collector.is_in_array();
         match (c, next) {
-            ('[' | '{', Next::Value) => {
-                let is_list = c == '[';
-                let shape = if is_list { Shape::Array } else { Shape::Object };
-                let _ = self.collector.begin(shape, self.at)?;
-                self.collector.open(is_list)?;
-                self.take(1);
-                Ok(self.first())
-            }
+            ('[' | '{', Next::Value) => self.open_flow(c == '['),
             (',' | '}', Next::Colon | Next::Value) if !is_array => {
                 let _ = self.collector.begin(Shape::Null, self.at)?;
                 // The character itself comes next.
                 Ok(Next::Comma)
             }
-            (']', Next::Value | Next::Comma) if is_array => {
-                self.collector.close();
-                self.take(1);
-                Ok(Next::Comma)
-            }
-            ('}', Next::Key | Next::Comma) if !is_array => {
-                self.collector.close();
-                self.take(1);
-                Ok(Next::Comma)
-            }
+            (']', Next::Value | Next::Comma) if is_array => Ok(self.close_flow()),
+            ('}', Next::Key | Next::Comma) if !is_array => Ok(self.close_flow()),
             (',', Next::Comma) => {
                 self.collector.end_item();
                 self.take(1);
@@ -543,22 +558,8 @@ impl<'t> Reader<'t> {
                 Ok(Next::Value)
             }
             (':', Next::Comma) if is_array => Err(self.mistake(BARE)),
-            (c, Next::Key) => {
-                self.flow_key(c)?;
-                Ok(Next::Colon)
-            }
-            ('"' | '\'', Next::Value) => {
-                self.quoted_value()?;
-                Ok(Next::Comma)
-            }
-            (_, Next::Value) => {
-                let text = self.plain();
-                if text.is_empty() {
-                    return Err(self.mistake(INVALID));
-                }
-                self.plain_value(text)?;
-                Ok(Next::Comma)
-            }
+            (c, Next::Key) => self.flow_key(c),
+            (c, Next::Value) => self.flow_text(c),
             (_, _) => Err(self.mistake(INVALID)),
         }
     }
