@@ -2,7 +2,7 @@
 
 use crate::apart::first_apart;
 use crate::fixing::range_of_specifier;
-use crate::walking::{Manifests, find, read_file};
+use crate::walking::{Group, Manifests, find, read_file};
 use answers::asking::Problem;
 use answers::object::Object;
 use answers::questions::text_of_version;
@@ -351,6 +351,40 @@ fn print<O: Write, E: Write>(
     Ok(())
 }
 
+// Adds what stands in a manifest.
+fn add_manifest<R: Runtime + AllocGlobal, O: Write, E: Write>(
+    rt: &R,
+    console: &mut Console<O, E>,
+    path: &str,
+    manifests: &mut Vec<Manifest>,
+) -> Result<Status, Stop> {
+    let text = match read_file(rt, console, path) {
+        Ok(text) => text,
+        Err(Stop::Ended(unread)) => return Ok(unread),
+        Err(stop) => return Err(stop),
+    };
+    let text = text.as_str();
+    let text = text.strip_prefix('\u{feff}').unwrap_or(text);
+    let entries = entries(console.alloc, path, text)?;
+    let path = String::from_str(console.alloc, path)?;
+    manifests.push(Manifest { path, entries })?;
+    Ok(Status::Answered)
+}
+
+// Adds what stands in the manifests of a group.
+fn add_manifests<R: Runtime + AllocGlobal, O: Write, E: Write>(
+    rt: &R,
+    console: &mut Console<O, E>,
+    group: &Group,
+    manifests: &mut Vec<Manifest>,
+) -> Result<Status, Stop> {
+    let mut status = Status::Answered;
+    for path in group.paths.iter() {
+        status = status.worse(add_manifest(rt, console, path.as_str(), manifests)?);
+    }
+    Ok(status)
+}
+
 /// `ranges asked [FOLDER]`: the packages that several manifests ask for, by name, and the lowest version that all accept, or two ranges that
 /// exclude each other.
 pub fn report<R: Runtime + AllocGlobal, O: Write, E: Write>(
@@ -359,27 +393,11 @@ pub fn report<R: Runtime + AllocGlobal, O: Write, E: Write>(
     matches: &ArgMatches<'_>,
 ) -> Result<Status, Stop> {
     let alloc = console.alloc;
-    let found = match matches.get_str("FOLDER") {
-        Some(folder) => find(rt, console, Some(&[folder]), &[])?,
-        None => find(rt, console, None, &[])?,
-    };
+    let found = find(rt, console, matches.get_strs("FOLDER"), &[])?;
     let Manifests { groups, mut status } = found;
     let mut manifests = Vec::new(alloc);
     for group in groups.iter() {
-        for path in group.paths.iter() {
-            let path = path.as_str();
-            match read_file(rt, console, path) {
-                Ok(text) => {
-                    let text = text.as_str();
-                    let text = text.strip_prefix('\u{feff}').unwrap_or(text);
-                    let entries = entries(alloc, path, text)?;
-                    let path = String::from_str(alloc, path)?;
-                    manifests.push(Manifest { path, entries })?;
-                }
-                Err(Stop::Ended(unread)) => status = status.worse(unread),
-                Err(stop) => return Err(stop),
-            }
-        }
+        status = status.worse(add_manifests(rt, console, group, &mut manifests)?);
     }
     let packages = all_packages(alloc, manifests.as_slice())?;
     for (name, package) in packages.iter() {

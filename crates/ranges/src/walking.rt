@@ -174,31 +174,51 @@ fn excludes_file<R: Runtime + AllocGlobal>(rt: &R) -> io::Result<String> {
 // What git ignores in a folder by files above it: the user's own, the exclude file of its repository, and each .gitignore from there down.
 fn ignored_above<R: Runtime + AllocGlobal>(rt: &R, folder: &str) -> io::Result<Vec<Ignored>> {
     let alloc = rt.alloc();
-    let mut ignored = Vec::new(alloc);
-    let path = if folder.is_empty() { "." } else { folder };
-    let real = match fs::canonicalize(rt, path) {
+    let real = match fs::canonicalize(rt, shown_folder(folder)) {
         Ok(real) => real,
         Err(error) if error.kind() == ErrorKind::OutOfMemory => return Err(error),
-        Err(_) => return Ok(ignored),
+        Err(_) => return Ok(Vec::new(alloc)),
     };
     let names = names_of(alloc, real.as_str())?;
-    let names = names.as_slice();
-    let Some(top) = repository(rt, names)? else {
-        return Ok(ignored);
-    };
-    let lead = path_of(alloc, names.get(top..).unwrap_or(&[]))?;
-    let own = excludes_file(rt)?;
-    read_ignored(rt, own.as_str(), folder, lead.as_str(), &mut ignored)?;
-    let above = path_of(alloc, names.get(..top).unwrap_or(&[]))?;
-    let exclude = format!(in alloc; "{above}/.git/info/exclude")?;
-    read_ignored(rt, exclude.as_str(), folder, lead.as_str(), &mut ignored)?;
-    for count in top..names.len() {
-        let above = path_of(alloc, names.get(..count).unwrap_or(&[]))?;
-        let lead = path_of(alloc, names.get(count..).unwrap_or(&[]))?;
-        let file = format!(in alloc; "{above}/.gitignore")?;
-        read_ignored(rt, file.as_str(), folder, lead.as_str(), &mut ignored)?;
+    let mut ignored = Vec::new(alloc);
+    if let Some(top) = repository(rt, names.as_slice())? {
+        read_above(rt, folder, names.as_slice(), top, &mut ignored)?;
     }
     Ok(ignored)
+}
+
+// Adds the lines of a file of what is ignored in the folder that so many of these names lead to. They count below a folder, to which all lead.
+fn read_at<R: Runtime + AllocGlobal>(
+    rt: &R,
+    folder: &str,
+    names: &[&str],
+    count: usize,
+    file: &str,
+    ignored: &mut Vec<Ignored>,
+) -> io::Result<()> {
+    let (front, behind) = names.split_at_checked(count).unwrap_or((names, &[]));
+    let above = path_of(rt.alloc(), front)?;
+    let lead = path_of(rt.alloc(), behind)?;
+    let file = format!(in rt.alloc(); "{above}/{file}")?;
+    read_ignored(rt, file.as_str(), folder, lead.as_str(), ignored)
+}
+
+// Adds what git ignores by files above a folder, to which these names lead, so many of them to its repository.
+fn read_above<R: Runtime + AllocGlobal>(
+    rt: &R,
+    folder: &str,
+    names: &[&str],
+    top: usize,
+    ignored: &mut Vec<Ignored>,
+) -> io::Result<()> {
+    let own = excludes_file(rt)?;
+    let lead = path_of(rt.alloc(), names.get(top..).unwrap_or(&[]))?;
+    read_ignored(rt, own.as_str(), folder, lead.as_str(), ignored)?;
+    read_at(rt, folder, names, top, ".git/info/exclude", ignored)?;
+    for count in top..names.len() {
+        read_at(rt, folder, names, count, ".gitignore", ignored)?;
+    }
+    Ok(())
 }
 
 // ---- folders
@@ -409,6 +429,26 @@ fn add_workspaces<R: Runtime + AllocGlobal, O: Write, E: Write>(
     Ok(status)
 }
 
+// Adds the manifests of the workspaces below this folder.
+fn add_members<R: Runtime + AllocGlobal, O: Write, E: Write>(
+    rt: &R,
+    console: &mut Console<O, E>,
+    excludes: &[&str],
+    workspaces: &mut [Workspace],
+    found: &mut Group,
+) -> Result<Status, Stop> {
+    let alloc = console.alloc;
+    let mut status = Status::Answered;
+    let below = manifests_in(rt, console, "", excluded(alloc, excludes)?, &mut status)?;
+    for path in below.paths {
+        let (folder, _) = split_path(path.as_str());
+        if !folder.is_empty() && is_workspace(alloc, workspaces, folder)? {
+            found.paths.push(path)?;
+        }
+    }
+    Ok(status)
+}
+
 // Finds the manifests of this folder, and those of its workspaces.
 fn manifests_here<R: Runtime + AllocGlobal, O: Write, E: Write>(
     rt: &R,
@@ -440,16 +480,9 @@ fn manifests_here<R: Runtime + AllocGlobal, O: Write, E: Write>(
     }
     // A pattern may name this folder itself.
     let _ = is_workspace(alloc, workspaces.as_mut_slice(), "")?;
-    let below = manifests_in(rt, console, "", excluded(alloc, excludes)?, status)?;
-    for path in below.paths {
-        let is_member = match path.as_str().rsplit_once('/') {
-            Some((folder, _)) => is_workspace(alloc, workspaces.as_mut_slice(), folder)?,
-            None => false,
-        };
-        if is_member {
-            found.paths.push(path)?;
-        }
-    }
+    let members = workspaces.as_mut_slice();
+    let told = add_members(rt, console, excludes, members, &mut found)?;
+    *status = status.worse(told);
     for workspace in workspaces {
         if excludes.is_empty() && !workspace.has_match && !workspace.is_without {
             found.unmatched.push(workspace.text)?;
