@@ -1,4 +1,6 @@
 pub mod Above
+pub mod Digits
+pub mod Inside
 pub mod Lowest
 pub mod Numbers
 pub mod Orders

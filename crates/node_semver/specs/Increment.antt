@@ -1,7 +1,7 @@
 -- Which version comes next. Source: node-semver's documentation of `inc`. `major`, `minor` and `patch` are the next release of that kind.
 -- `premajor` goes up to the next major version and down to a pre-release of it; `preminor` and `prepatch` do the same. `prerelease` of a
 -- release is `prepatch`, and of a pre-release the next pre-release. `release` is the release of a pre-release.
-use Rattle.std.specs.Prelude.{◌≡◌, ◌+◌, ◌==◌, ◌&&◌, ◌++◌, ◌∷◌, ℕ, Bool, true, false, not, List, [], Option, Some, None, Result, Ok, Err, codes, decimal, drop, is_some, length, nat_eq, take, if◌then◌else◌}
+use Rattle.std.specs.Prelude.{◌≡◌, ◌+◌, ◌==◌, ◌&&◌, ◌++◌, ◌∷◌, ℕ, Bool, false, not, List, [], Option, Some, None, Result, Ok, Err, codes, decimal, drop, is_some, length, nat_eq, take, if◌then◌else◌}
 use Rattle.std.specs.Cmp.Lexicographic.{pointwise}
 use Rattle.semver_base.specs.Intervals.{with_pre}
 use Rattle.semver_base.specs.Meaning.{is_release, release}

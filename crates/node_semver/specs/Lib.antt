@@ -1,5 +1,7 @@
+pub mod Coerce
 pub mod Difference
 pub mod Identifiers
 pub mod Increment
 pub mod NextVersions
+pub mod Outside
 pub mod ReleaseTypes

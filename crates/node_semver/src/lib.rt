@@ -1,12 +1,15 @@
-//! What node-semver has beside `deno_semver`: the version that comes next, and how two versions differ.
+//! What node-semver has beside `deno_semver`: the version that comes next, how two versions differ, whether a version lies outside
+//! a range, and which version a string holds.
 //!
-//! `release_type` has the kinds of releases, `identifiers` parses those of a pre-release,
-//! `increment` raises a version to the next of a kind, `difference` says of which kind the step between two versions is, and
-//! `laws` has facts about the versions that come next.
+//! `release_type` has the kinds of releases, `identifiers` parses those of a pre-release, `increment` raises a version to the next
+//! of a kind, and `laws` has facts about such versions. `difference` says of which kind the step between two versions is, `outside`
+//! whether a version lies above or below all that a set of ranges matches, and `coerce` finds the version that a string holds.
 #![tactic(auto)]
 
+pub mod coerce;
 pub mod difference;
 pub mod identifiers;
 pub mod increment;
 pub mod laws;
+pub mod outside;
 pub mod release_type;
