@@ -54,6 +54,7 @@ static text cut(text *rest, int mark) {
 /* The kinds of releases, and that there is none. */
 static const char *const KINDS[] = {"major", "minor", "patch", "premajor", "preminor", "prepatch", "prerelease", "release", "none"};
 static const char *const BASES[] = {"zero", "one", "nothing"};
+static const char *const ENDS[] = {"first", "last"};
 
 /* The number of a name among these, or one more than all have. */
 static uint32_t number_of(text t, const char *const *names, size_t count) {
@@ -198,6 +199,14 @@ static void ask_held_list(const text *t, void (*ask)(semver_list *, semver_req *
     semver_req_free(&r);
 }
 
+static void above(const text *t) {
+    check_text(semver_above(grammar, BYTES(t[0]), BYTES(t[1]), pre_releases, OUT));
+}
+
+static void below(const text *t) {
+    check_text(semver_below(grammar, BYTES(t[0]), BYTES(t[1]), pre_releases, OUT));
+}
+
 static void filter(const text *t) {
     check_answers(semver_filter(grammar, BYTES(t[0]), BYTES(t[1]), pre_releases, answers, LINES, &needed));
     ask_held_list(t, filter_list);
@@ -269,6 +278,11 @@ static void compare(const text *t) {
 static void increment(const text *t) {
     uint32_t kind = number_of(t[0], KINDS, SEMVER_NO_DIFFERENCE), base = number_of(t[1], BASES, sizeof BASES / sizeof *BASES);
     check_text(semver_increment(kind, BYTES(t[2]), BYTES(t[3]), base, OUT));
+}
+
+/* Which version, and the string that holds it. */
+static void coerce(const text *t) {
+    check_text(semver_coerce(number_of(t[0], ENDS, sizeof ENDS / sizeof *ENDS), BYTES(t[1]), OUT));
 }
 
 static void difference(const text *t) {
@@ -426,6 +440,8 @@ static const struct call {
     int32_t (*held_version)(const semver_ver *, char *, size_t, size_t *);
 } CALLS[] = {
     {"fits", 2, .ask = fits},
+    {"above", 2, .ask = above},
+    {"below", 2, .ask = below},
     {"filter", 2, .ask = filter},
     {"best", 2, .ask = best},
     {"lowest", 2, .ask = lowest},
@@ -449,6 +465,7 @@ static const struct call {
     {"dependency", 1, .req = semver_dependency},
     {"export_name", 0, .text = semver_export_name},
     {"increment", 0, .ask = increment},
+    {"coerce", 0, .ask = coerce},
     {"difference", 0, .ask = difference},
     {"compare", 0, .ask = compare, .held_versions = semver_version_compare},
     {"order", 0, .held_versions = semver_version_order},

@@ -58,6 +58,9 @@ enum {
 /* the number behind the identifiers of a first pre-release, or none */
 enum { SEMVER_BASE_ZERO = 0, SEMVER_BASE_ONE = 1, SEMVER_NO_BASE = 2 };
 
+/* which of the versions in a string semver_coerce returns: the first, or the one that ends last */
+enum { SEMVER_FIRST = 0, SEMVER_LAST = 1 };
+
 /* codes */
 enum {
     SEMVER_NO = 0,
@@ -67,7 +70,7 @@ enum {
     SEMVER_INVALID_RANGE = -2,   /* a range, a package or a reference is invalid */
     SEMVER_INVALID_VERSION = -3,
     SEMVER_NOT_UTF8 = -4,        /* bytes aren't valid UTF-8 */
-    SEMVER_NO_GRAMMAR = -5,      /* nothing has this number: no grammar, no kind of step, no base, nothing that semver_why asks about */
+    SEMVER_NO_GRAMMAR = -5,      /* nothing has this number: no grammar, no kind of step, no base, neither end of a string, nothing that semver_why asks about */
     SEMVER_NO_MEMORY = -6,       /* out of memory */
     SEMVER_NO_VALUE = -7,        /* a handle is empty, or holds a value of another kind */
     SEMVER_NO_INCREMENT = -8     /* there is no next version, or the identifiers of its pre-release are invalid */
@@ -79,6 +82,17 @@ enum {
 int32_t semver_fits(uint32_t grammar, const char *range, size_t range_len,
                     const char *version, size_t version_len, uint32_t pre_releases,
                     char *out, size_t out_len, size_t *needed);
+
+/* Whether the version is above each version that the range matches: NO, YES or TAG. If the range matches nothing, every version is above
+ * and below. */
+int32_t semver_above(uint32_t grammar, const char *range, size_t range_len,
+                     const char *version, size_t version_len, uint32_t pre_releases,
+                     char *out, size_t out_len, size_t *needed);
+
+/* Whether the version is below each version that the range matches: like semver_above. */
+int32_t semver_below(uint32_t grammar, const char *range, size_t range_len,
+                     const char *version, size_t version_len, uint32_t pre_releases,
+                     char *out, size_t out_len, size_t *needed);
 
 /* Which versions of a list, one per line, match the range: YES or TAG. With YES `answers[n]` is NO, YES or INVALID_VERSION for line n,
  * and `*needed` is the number of lines; else it is 0. If there are more lines than `answers_len`, or with any code but YES, `answers`
@@ -114,6 +128,10 @@ int32_t semver_compare(const char *one, size_t one_len, const char *other, size_
 int32_t semver_increment(uint32_t release_type, const char *version, size_t version_len,
                          const char *identifiers, size_t identifiers_len, uint32_t base,
                          char *out, size_t out_len, size_t *needed);
+
+/* The version that a string holds: YES, with one to three numbers with a "." between neighbours, 0 for each that is missing; or NO. A
+ * number may have leading zeros; one above 18446744073709551615 belongs to no version. `first_or_last` is SEMVER_FIRST or SEMVER_LAST. */
+int32_t semver_coerce(uint32_t first_or_last, const char *text, size_t text_len, char *out, size_t out_len, size_t *needed);
 
 /* The kind of the step between two versions, in either direction: that of the first number that differs, and of its pre-release if the
  * higher version is one. From a pre-release to its own release it is the kind of that release, and from one of a major version to any

@@ -10,3 +10,5 @@ pub mod ReadArguments
 pub mod Sorted
 pub mod TextLists
 mod ErrorJson
+pub mod Whether
+pub mod WritableArguments

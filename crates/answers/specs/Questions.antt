@@ -2,13 +2,15 @@
 use Rattle.std.specs.Prelude.{◌≡◌, ◌↔◌, IsTrue, ℕ, List, [], ◌∷◌, Bool, false, Option, None, Some, Result, Ok}
 use Rattle.std.specs.List.{list_any}
 use Rattle.std.specs.declared.cmp.Ordering.{Ordering}
-use Rattle.semver_base.specs.Containment.{AreEquivalent}
+use Rattle.semver_base.specs.Containment.{AreEquivalent, IsWithin}
 use Rattle.semver_base.specs.LowestVersion.{IsLowest}
 use Rattle.semver_base.specs.Precedence.{precedence_cmp}
 use Rattle.semver_base.specs.SortKey.{sort_key}
 use Rattle.semver_base.specs.VersionText.{version_text}
 use Rattle.semver_base.specs.declared.range.PreRelease.{PreRelease}
 use Rattle.semver_base.specs.declared.version.Version.{Version}
+use Rattle.node_semver.specs.Outside.{lies}
+use Rattle.node_semver.specs.declared.outside.Side.{Side}
 use Rattle.semver_req.specs.Requirement.{Requirement, all_inners_mean_with, inner_means_alone_with, inner_means_with, inner_overlap, inner_text, tag_of}
 use Rattle.semver_req.specs.declared.common.values.Flavour.{Flavour}
 use Rattle.semver_req.specs.declared.range_set_or_tag.RangeSetOrTag.{RangeSetOrTag}
@@ -49,6 +51,17 @@ match_of flag (inner.Tag tag) v = Tag tag
 abbrev pub Matches : PreRelease → Flavour → List ℕ → List ℕ → Result (Answer Bool) Fault → Type 0
 Matches flag f range version =
     Given (IsRangeAt f 0 range) (λ req. Given (IsVersionAt 0 version) (λ v. Is (match_of flag req.inner v)))
+
+-- ---- does the version lie outside the range
+
+-- whether the version lies on this side of each version that the range matches
+abbrev pub LiesOutsideOf : Side → PreRelease → RangeSetOrTag → Version → Result (Answer Bool) Fault → Type 0
+LiesOutsideOf side flag read v = UnlessTag (tag_of read) (λ outcome. (is : Bool)
+    × (IsTrue is ↔ IsWithin (inner_means_with flag read) (lies side v)) × (outcome ≡ Ok (Value is)))
+
+abbrev pub LiesOutside : Side → PreRelease → Flavour → List ℕ → List ℕ → Result (Answer Bool) Fault → Type 0
+LiesOutside side flag f range version =
+    Given (IsRangeAt f 0 range) (λ req. Given (IsVersionAt 0 version) (LiesOutsideOf side flag req.inner))
 
 -- ---- the highest or the lowest of several versions that matches
 

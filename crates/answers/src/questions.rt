@@ -7,15 +7,17 @@ ghost use Rattle.std.specs.Prelude.{◌≡◌, IfOk, string_bytes};
 ghost use Rattle.std.specs.Option.{option_copied};
 ghost use Rattle.semver_base.specs.VersionText.{version_text};
 ghost use Rattle.answers.specs.Asking.{IsAnswer};
-ghost use Rattle.answers.specs.Questions.{BestMatch, Canonical, Common, Displayed, Equivalent, Matches, Orders, Outside, Overlaps, SortKeyOf, better, first_tag};
+ghost use Rattle.answers.specs.Questions.{BestMatch, Canonical, Common, Displayed, Equivalent, LiesOutside, Matches, Orders, Outside, Overlaps, SortKeyOf, better, first_tag};
 ghost use Rattle.answers.specs.Reading.{texts_of};
 
 use crate::asking::{Answer, Problem};
 use crate::reading::{range, ranges, version, versions};
+use node_semver::outside::{Side, is_outside};
 use semver_base::range::PreRelease;
 use semver_base::version::Version;
 use semver_req::common::values::Flavour;
-use semver_req::range_set_or_tag::PackageTag;
+use semver_req::laws::read_ranges_are_writable;
+use semver_req::range_set_or_tag::{PackageTag, RangeSetOrTag};
 use semver_req::req::VersionReq;
 use semver_req::resolve::{max_satisfying_with, min_satisfying_with};
 use std::alloc::{AllocError, Global};
@@ -76,6 +78,31 @@ pub fn matches(
         Some(tag) => Ok(Answer::Tag(PackageTag::from_str(alloc, tag)?)),
         None => Ok(Answer::Value(range.matches_with(&version, pre_release))),
     }
+}
+
+/// Does the version lie on this side of each version that the range matches?
+pub fn lies_outside(
+    alloc: Global,
+    side: Side,
+    flavour: Flavour,
+    pre_release: PreRelease,
+    range_text: &str,
+    version_text: &str,
+) -> Result<Answer<bool>, Problem>
+    ensures { IsAnswer (LiesOutside side pre_release flavour range_text.now version_text.now)
+        (λ answer. answer) result }
+{
+    read_ranges_are_writable();
+    let range = range(alloc, flavour, 0, range_text)?;
+    let version = version(alloc, 0, version_text)?;
+    let set = match range.inner() {
+        RangeSetOrTag::RangeSet(set) => set,
+        RangeSetOrTag::Tag(tag) => {
+            return Ok(Answer::Tag(PackageTag::from_str(alloc, tag.as_str())?));
+        }
+    };
+    let lies = is_outside(alloc, &version, side, set, pre_release)?;
+    Ok(Answer::Value(lies))
 }
 
 /// Which of the versions is the highest or lowest that matches the range? Of those that differ only in the build, the first.

@@ -5,6 +5,8 @@ use Rattle.semver_base.specs.declared.range.PreRelease.{PreRelease}
 use Rattle.semver_base.specs.declared.range.PreRelease.TheVariants.{Restricted, Admitted}
 use Rattle.semver_req.specs.declared.common.values.Flavour.{Flavour}
 use Rattle.semver_req.specs.declared.common.values.Flavour.TheVariants.{Npm, Normal, Specifier}
+use Rattle.node_semver.specs.declared.coerce.Direction.{Direction}
+use Rattle.node_semver.specs.declared.coerce.Direction.TheVariants as direction
 use Rattle.node_semver.specs.declared.increment.Base.{Base}
 use Rattle.node_semver.specs.declared.increment.Base.TheVariants as base
 use Rattle.node_semver.specs.declared.release_type.ReleaseType.{ReleaseType}
@@ -69,7 +71,7 @@ pub data Called {X : Type 0} (Asked : Result X Fault → Type 0) : Result X Call
 abbrev pub call_message : CallFault → List ℕ
 call_message (Unanswered fault) = fault_message fault
 call_message NoGrammar = codes "No grammar has this number."
-call_message NotUtf8 = codes "The text isn't valid UTF-8."
+call_message NotUtf8 = codes "The string isn't valid UTF-8."
 call_message NoValue = codes "The handle holds no value of this kind."
 
 -- the place of the argument that is invalid, among those of its kind; without one, the other place
@@ -111,6 +113,10 @@ release_types = type.Major ∷ type.Minor ∷ type.Patch ∷ type.PreMajor ∷ t
 -- the numbers behind the identifiers of a first pre-release
 abbrev pub bases : List Base
 bases = base.Zero ∷ base.One ∷ base.Nothing ∷ []
+
+-- the ends from which a text is searched
+abbrev pub directions : List Direction
+directions = direction.LeftToRight ∷ direction.RightToLeft ∷ []
 
 -- bytes that are a text
 pub data IsUtf8Text (bytes : List ℕ) : Result (List ℕ) CallFault → Type 0 where

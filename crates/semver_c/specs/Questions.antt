@@ -6,6 +6,8 @@ use Rattle.semver_base.specs.declared.version.Version.{Version}
 use Rattle.semver_req.specs.Requirement.{Requirement, tag_of}
 use Rattle.semver_req.specs.declared.common.values.Flavour.{Flavour}
 use Rattle.deno_semver.specs.ExportName.{export_name}
+use Rattle.node_semver.specs.Coerce.{coerced}
+use Rattle.node_semver.specs.declared.outside.Side.{Side}
 use Rattle.semver_req.specs.Viable.{IsErrorPlace, IsVersionText}
 use Rattle.answers.specs.Asking.{Fault, Given, Is}
 use Rattle.answers.specs.Errors.{IsErrorsText}
@@ -13,16 +15,17 @@ use Rattle.answers.specs.ExplainedJson.{Explains}
 use Rattle.answers.specs.Filtering.{Filter, VersionLines}
 use Rattle.package_answers.specs.Faults.{IsPackageFault, IsReferenceFault}
 use Rattle.package_answers.specs.Packages.{IsPackageErrorsText}
-use Rattle.answers.specs.Questions.{BestMatch, Common, Equivalent, Matches, Outside, match_of}
+use Rattle.answers.specs.Questions.{BestMatch, Common, Equivalent, LiesOutside, Matches, Outside, match_of}
 use Rattle.answers.specs.Reading.{IsRangeAt, IsVersionAt}
 use Rattle.package_answers.specs.References.{IsReferenceErrorsText}
 use Rattle.answers.specs.Sorting.{Sorts}
 use Rattle.answers.specs.Steps.{Increments}
 use Rattle.answers.specs.declared.asking.Answer.{Answer}
+use Rattle.answers.specs.declared.asking.Answer.TheVariants.{Value}
 use Rattle.answers.specs.declared.questions.Best.{Best}
 use Rattle.answers.specs.declared.questions.End.{End}
 use Rattle.answers.specs.declared.sorting.Order.TheVariants.{Ascending}
-use Rattle.semver_c.specs.Arguments.{CallFault, Called, IsNumbered, IsUtf8Text, bases, pre_release_by, release_types, subjects}
+use Rattle.semver_c.specs.Arguments.{CallFault, Called, IsNumbered, IsUtf8Text, bases, directions, pre_release_by, release_types, subjects}
 use Rattle.semver_c.specs.Codes.{match_code}
 use Rattle.semver_c.specs.Given.{IsWithText, IsWithTexts}
 use Rattle.semver_c.specs.declared.arguments.Subject.{Subject}
@@ -55,9 +58,18 @@ abbrev pub IncrementBy : ℕ → List ℕ → List ℕ → ℕ → Result (List 
 IncrementBy kind version identifiers number = Given (IsNumbered release_types kind)
     (λ t. Given (IsNumbered bases number) (λ b. OfTexts version identifiers (Increments t b)))
 
+-- `semver_coerce`
+abbrev pub CoercesTo : ℕ → List ℕ → Result (Answer (Option Version)) CallFault → Type 0
+CoercesTo number bytes =
+    Given (IsNumbered directions number) (λ d. Given (IsUtf8Text bytes) (λ text. Is (Value (coerced d text))))
+
 -- `semver_fits`
 abbrev pub Fits : ℕ → ℕ → List ℕ → List ℕ → Result (Answer Bool) CallFault → Type 0
 Fits number g range version = ByTwo g range version (λ f r v. Matches (pre_release_by number) f r v)
+
+-- `semver_above` and `semver_below`
+abbrev pub Lies : Side → ℕ → ℕ → List ℕ → List ℕ → Result (Answer Bool) CallFault → Type 0
+Lies side number g range version = ByTwo g range version (λ f r v. LiesOutside side (pre_release_by number) f r v)
 
 -- `semver_filter`
 abbrev pub Filters : ℕ → ℕ → List ℕ → List ℕ → Result (Answer (List (Option Bool))) CallFault → Type 0

@@ -3,7 +3,7 @@
 ghost use Rattle.std.specs.Prelude.{◌≡◌, IfOk, map};
 ghost use Rattle.std.specs.Str.Lines.{lines};
 ghost use Rattle.answers.specs.declared.asking.Problem.TheVariants as unanswered;
-ghost use Rattle.semver_c.specs.Arguments.{IsArgument, IsNumbered, IsUtf8Text, bases, call_fault, call_message, fault_place, grammars, pre_release_by, release_types, subjects};
+ghost use Rattle.semver_c.specs.Arguments.{IsArgument, IsNumbered, IsUtf8Text, bases, call_fault, call_message, directions, fault_place, grammars, pre_release_by, release_types, subjects};
 ghost use Rattle.semver_c.specs.Given.{IsWithText, IsWithTexts, text_given, texts_given};
 ghost use Rattle.semver_c.specs.Codes.{fault_code};
 ghost use Rattle.semver_c.specs.declared.arguments.Problem.TheVariants as problem;
@@ -11,6 +11,7 @@ ghost use Rattle.semver_c.specs.declared.arguments.Problem.TheVariants as proble
 use crate::codes::Code;
 use answers::asking::{Kind, Problem as Unanswered};
 use deno_semver::PreRelease;
+use node_semver::coerce::Direction;
 use node_semver::increment::Base;
 use node_semver::release_type::ReleaseType;
 use semver_req::common::values::Flavour;
@@ -83,7 +84,7 @@ impl Problem {
         match self {
             Problem::Unanswered(why) => why.message(),
             Problem::NoGrammar => "No grammar has this number.",
-            Problem::NotUtf8 => "The text isn't valid UTF-8.",
+            Problem::NotUtf8 => "The string isn't valid UTF-8.",
             Problem::NoValue => "The handle holds no value of this kind.",
         }
     }
@@ -139,6 +140,13 @@ pub fn base_of(number: u32) -> Result<Base, Problem>
     ensures { IsArgument (IsNumbered bases number) (λ base. base) result }
 {
     numbered(&[Base::Zero, Base::One, Base::Nothing], number)
+}
+
+/// The direction of this number.
+pub fn direction_of(number: u32) -> Result<Direction, Problem>
+    ensures { IsArgument (IsNumbered directions number) (λ direction. direction) result }
+{
+    numbered(&[Direction::LeftToRight, Direction::RightToLeft], number)
 }
 
 /// Which pre-releases match: at 0 by npm's rule, at any other number all between the bounds.

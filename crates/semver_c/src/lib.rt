@@ -19,6 +19,7 @@ ghost use Rattle.answers.specs.Sorting.{SortedLines};
 ghost use Rattle.answers.specs.Steps.{Differs};
 ghost use Rattle.answers.specs.declared.questions.End.TheVariants as end;
 ghost use Rattle.answers.specs.declared.sorting.Order.TheVariants.{Ascending};
+ghost use Rattle.node_semver.specs.declared.outside.Side.TheVariants as side;
 ghost use Rattle.package_answers.specs.Packages.{IsPackage, PackageParts};
 ghost use Rattle.answers.specs.Parts.{RangeParts, VersionParts};
 ghost use Rattle.package_answers.specs.Names.{NameWithVersionParts};
@@ -28,7 +29,7 @@ ghost use Rattle.package_answers.specs.References.{ReferenceParts};
 ghost use Rattle.semver_c.specs.Arguments.{pre_release_by};
 ghost use Rattle.semver_c.specs.Codes.{IsCode, IsPlaceReply, IsPlaced, IsReply, IsReported, IsUntouched, IsUntouchedWithoutValue, always_yes, as_place, best_code, best_place, bool_code, code_of, filter_code, filter_numbers, found_code, found_text, lowest_code, lowest_text, match_code, no_place, no_text, number_of, or_message, or_nothing, order_code, text_code, text_of, three_numbers, unqualified_code, yes};
 ghost use Rattle.semver_c.specs.Held.{AreHeldScans, IsHeld, IsHeldBest, IsHeldEqual, IsScansCode, OfHeld, of_both, of_one, range_in, scan_at, scan_code, scans_in, version_in, versions_in};
-ghost use Rattle.semver_c.specs.Questions.{BestLine, ByOne, ByTwo, CommonBy, CommonOfAll, EquivalentBy, ErrorsBy, ExplainsBy, ExportNameOf, Filters, Fits, IncrementBy, LowestBy, MatchesHeld, NumbersOf, OfText, OfTexts, OutsideBy, PackageErrorsBy, RangeBy, ReferenceErrorsOf, SortsOf, TagBy, VersionErrorOf, VersionListOf, WhyBy};
+ghost use Rattle.semver_c.specs.Questions.{BestLine, ByOne, ByTwo, CoercesTo, CommonBy, CommonOfAll, EquivalentBy, ErrorsBy, ExplainsBy, ExportNameOf, Filters, Fits, IncrementBy, Lies, LowestBy, MatchesHeld, NumbersOf, OfText, OfTexts, OutsideBy, PackageErrorsBy, RangeBy, ReferenceErrorsOf, SortsOf, TagBy, VersionErrorOf, VersionListOf, WhyBy};
 ghost use Rattle.semver_c.specs.declared.codes.Code.{Code};
 ghost use Rattle.semver_c.specs.declared.codes.Code.TheVariants as code;
 
@@ -45,18 +46,19 @@ use deno_semver::PreRelease;
 use deno_semver::npm::is_valid_npm_tag;
 use deno_semver::package::cmp_version_reqs;
 use handles::{Held, RequirementHandle, ScansHandle, VersionHandle, VersionListHandle};
+use node_semver::outside::Side;
 use questions::{
-    best_held, best_line, canonical_form, canonical_held, common, common_of_all, dependency_of,
-    difference_of, displayed_held, displayed_version, equivalent_ranges, errors_of, explanation_of,
-    export_name_of, filter, filter_held, fits, increment_of, is_tag, key_held, key_of, lowest,
-    match_code, matches_held, name_with_version_of, names_tag, numbers_of, order_of, outside,
-    overlap, package_errors_of, package_of, ranges_of, read_list, read_package_of, read_range,
-    read_version, reference_errors_of, reference_of, sorted_held, sorted_lines, version_error_of,
-    version_parts_of, version_reference_of, why_invalid,
+    best_held, best_line, canonical_form, canonical_held, coerced_of, common, common_of_all,
+    dependency_of, difference_of, displayed_held, displayed_version, equivalent_ranges, errors_of,
+    explanation_of, export_name_of, filter, filter_held, fits, increment_of, is_tag, key_held,
+    key_of, lies, lowest, match_code, matches_held, name_with_version_of, names_tag, numbers_of,
+    order_of, outside, overlap, package_errors_of, package_of, ranges_of, read_list,
+    read_package_of, read_range, read_version, reference_errors_of, reference_of, sorted_held,
+    sorted_lines, version_error_of, version_parts_of, version_reference_of, why_invalid,
 };
 use reports::{
     put, put_items, put_place, report_best, report_filter, report_held, report_lowest,
-    report_places, report_problem, report_text, report_text_or_tag,
+    report_match, report_places, report_problem, report_text, report_text_or_tag,
 };
 use semver_base::version::release;
 use semver_req::laws::equal_requirements;
@@ -78,13 +80,49 @@ pub extern "C" fn semver_fits(
     ensures { IsReply (Fits pre_releases grammar range.now version.now)
         match_code (or_message no_text) out.old out.new needed.new result }
 {
-    match fits(alloc, grammar, range, version, pre_releases) {
-        Ok(answer) => {
-            put("", out, needed);
-            Code::of_match(&answer).number()
-        }
-        Err(problem) => report_problem(&problem, out, needed),
-    }
+    report_match(
+        fits(alloc, grammar, range, version, pre_releases),
+        out,
+        needed,
+    )
+}
+
+/// Whether the version is above each version that the range matches: yes, no, or that the range is a tag. Pre-releases match as in
+/// `semver_fits`.
+#[unsafe(no_mangle)]
+pub extern "C" fn semver_above(
+    alloc: Global,
+    grammar: u32,
+    range: &[u8],
+    version: &[u8],
+    pre_releases: u32,
+    out: &mut [u8],
+    needed: &mut usize,
+) -> i32
+    ensures { IsReply (Lies side.Above pre_releases grammar range.now version.now)
+        match_code (or_message no_text) out.old out.new needed.new result }
+{
+    let answer = lies(alloc, Side::Above, grammar, range, version, pre_releases);
+    report_match(answer, out, needed)
+}
+
+/// Whether the version is below each version that the range matches: yes, no, or that the range is a tag. Pre-releases match as in
+/// `semver_fits`.
+#[unsafe(no_mangle)]
+pub extern "C" fn semver_below(
+    alloc: Global,
+    grammar: u32,
+    range: &[u8],
+    version: &[u8],
+    pre_releases: u32,
+    out: &mut [u8],
+    needed: &mut usize,
+) -> i32
+    ensures { IsReply (Lies side.Below pre_releases grammar range.now version.now)
+        match_code (or_message no_text) out.old out.new needed.new result }
+{
+    let answer = lies(alloc, Side::Below, grammar, range, version, pre_releases);
+    report_match(answer, out, needed)
 }
 
 /// The next version of a kind, as displayed: yes. A pre-release begins with the identifiers, which may be empty, and the number
@@ -104,6 +142,23 @@ pub extern "C" fn semver_increment(
 {
     let next = increment_of(alloc, release_type, version, identifiers, base);
     report_text(next, out, needed)
+}
+
+/// The version that a text holds, as displayed: yes; or no, if there is none. Of several it is the first at 0, and the one that ends last
+/// at 1.
+#[unsafe(no_mangle)]
+pub extern "C" fn semver_coerce(
+    alloc: Global,
+    first_or_last: u32,
+    text: &[u8],
+    out: &mut [u8],
+    needed: &mut usize,
+) -> i32
+    ensures { IsReply (CoercesTo first_or_last text.now) (lowest_code code.Yes code.No)
+        (or_message lowest_text) out.old out.new needed.new result }
+{
+    let answer = coerced_of(alloc, first_or_last, text);
+    report_lowest(alloc, answer, Code::Yes, Code::No, out, needed)
 }
 
 /// Of which kind the step between two versions is, in either direction, or that they have the same precedence. With an invalid

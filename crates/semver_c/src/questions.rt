@@ -20,11 +20,11 @@ ghost use Rattle.package_answers.specs.References.{ReferenceParts};
 ghost use Rattle.semver_c.specs.Arguments.{IsCallAnswer, IsCallOutcome, pre_release_by};
 ghost use Rattle.semver_c.specs.Codes.{match_code};
 ghost use Rattle.semver_c.specs.Held.{IsHeldBest, OfHeld, of_both, of_one};
-ghost use Rattle.semver_c.specs.Questions.{BestLine, ByOne, ByTwo, CommonBy, CommonOfAll, EquivalentBy, ErrorsBy, ExplainsBy, ExportNameOf, Filters, Fits, IncrementBy, LowestBy, MatchesHeld, NumbersOf, OfText, OfTexts, OutsideBy, PackageErrorsBy, RangeBy, ReferenceErrorsOf, SortsOf, TagBy, VersionErrorOf, VersionListOf, WhyBy};
+ghost use Rattle.semver_c.specs.Questions.{BestLine, ByOne, ByTwo, CoercesTo, CommonBy, CommonOfAll, EquivalentBy, ErrorsBy, ExplainsBy, ExportNameOf, Filters, Fits, IncrementBy, Lies, LowestBy, MatchesHeld, NumbersOf, OfText, OfTexts, OutsideBy, PackageErrorsBy, RangeBy, ReferenceErrorsOf, SortsOf, TagBy, VersionErrorOf, VersionListOf, WhyBy};
 
 use crate::arguments::{
-    Problem, Subject, base_of, line_list, pre_release, release_type_of, subject_of, text,
-    with_text, with_texts,
+    Problem, Subject, base_of, direction_of, line_list, pre_release, release_type_of, subject_of,
+    text, with_text, with_texts,
 };
 use crate::codes::Code;
 use answers::asking::Answer;
@@ -33,8 +33,8 @@ use answers::explained_json::explain_as_json;
 use answers::filtering::{self, list_best, list_matches, version_lines};
 use answers::parts::{range_parts, version_parts};
 use answers::questions::{
-    Best, End, best_match, canonical, common_version, displayed, equivalent, matches, order,
-    overlaps, sort_key, text_of_version, version_outside,
+    Best, End, best_match, canonical, common_version, displayed, equivalent, lies_outside, matches,
+    order, overlaps, sort_key, text_of_version, version_outside,
 };
 use answers::reading::{range, version};
 use answers::sorting::{self, Order, sort};
@@ -42,6 +42,8 @@ use answers::steps::{difference, incremented};
 use deno_semver::jsr::normalized_export_name;
 use deno_semver::package::PackageReq;
 use deno_semver::{PreRelease, Version, VersionReq};
+use node_semver::coerce::coerce;
+use node_semver::outside::Side;
 use node_semver::release_type::ReleaseType;
 use package_answers::faults::{package_fault, reference_fault};
 use package_answers::names::name_with_version_parts;
@@ -115,6 +117,31 @@ pub fn fits(
     let given = with_texts(grammar, range, version)?;
     let pre_release = pre_release(pre_releases);
     matches(alloc, given.flavour, pre_release, given.one, given.other).map_err(Problem::from)
+}
+
+/// Does the version lie on this side of each version that the range matches?
+pub fn lies(
+    alloc: Global,
+    side: Side,
+    grammar: u32,
+    range: &[u8],
+    version: &[u8],
+    pre_releases: u32,
+) -> Result<Answer<bool>, Problem>
+    ensures { IsCallAnswer (Lies side pre_releases grammar range.now version.now)
+        (λ answer. answer) result }
+{
+    let given = with_texts(grammar, range, version)?;
+    let pre_release = pre_release(pre_releases);
+    lies_outside(
+        alloc,
+        side,
+        given.flavour,
+        pre_release,
+        given.one,
+        given.other,
+    )
+    .map_err(Problem::from)
 }
 
 /// Which of the versions, one per line, match the range?
@@ -192,6 +219,19 @@ pub fn increment_of(
     let version = text(version)?;
     let identifiers = text(identifiers)?;
     incremented(alloc, release_type, version, identifiers, base).map_err(Problem::from)
+}
+
+/// Which version does the text hold?
+pub fn coerced_of(
+    alloc: Global,
+    direction: u32,
+    bytes: &[u8],
+) -> Result<Answer<Option<Version>>, Problem>
+    ensures { IsCallAnswer (CoercesTo direction bytes.now) (λ answer. answer) result }
+{
+    let direction = direction_of(direction)?;
+    let text = text(bytes)?;
+    Ok(Answer::Value(coerce(alloc, text, direction)))
 }
 
 /// Of which kind is the step between the two versions?

@@ -4,7 +4,7 @@ ghost use Rattle.std.specs.Prelude.{◌≡◌, string_bytes};
 ghost use Rattle.answers.specs.Filtering.{list_answer};
 ghost use Rattle.semver_c.specs.Arguments.{call_fault, call_message, call_outcome, problem_place};
 ghost use Rattle.semver_c.specs.Held.{IsHeldReport};
-ghost use Rattle.semver_c.specs.Codes.{IsPlaced, IsReported, IsUntouched, always_yes, best_code, best_place, code_of, fault_code, filter_code, filter_numbers, lowest_code, lowest_text, number_of, or_message, or_nothing, place_after, text_code, text_of};
+ghost use Rattle.semver_c.specs.Codes.{IsPlaced, IsReported, IsUntouched, always_yes, best_code, best_place, code_of, fault_code, filter_code, filter_numbers, lowest_code, lowest_text, match_code, no_text, number_of, or_message, or_nothing, place_after, text_code, text_of};
 
 use crate::arguments::Problem;
 use crate::codes::Code;
@@ -103,6 +103,24 @@ pub fn report_text_or_tag(
         Ok(Answer::Tag(_tag)) => {
             put("", out, needed);
             Code::Tag.number()
+        }
+        Err(problem) => report_problem(&problem, out, needed),
+    }
+}
+
+/// Reports whether something is so, or that a range is a tag.
+pub fn report_match(
+    answer: Result<Answer<bool>, Problem>,
+    out: &mut [u8],
+    needed: &mut usize,
+) -> i32
+    ensures { IsReported match_code (or_message no_text)
+        (call_outcome (λ answer. answer) answer) out.old out.new needed.new result }
+{
+    match answer {
+        Ok(answer) => {
+            put("", out, needed);
+            Code::of_match(&answer).number()
         }
         Err(problem) => report_problem(&problem, out, needed),
     }

@@ -1,34 +1,21 @@
-use Rattle.std.proofs.Common.{◌≡◌, ◌∙◌, ◌↔◌, IsTrue, Bool, true, false, None, Ok, Result, ap, inr, refl, rules, sym}
+use Rattle.std.proofs.Common.{◌≡◌, ◌↔◌, IsTrue, Bool, None, Ok, rules}
 use Rattle.std.proofs.lemmas.Result.{err_from_is_err_and}
 use Rattle.semver_base.specs.Containment.{AreEquivalent}
 use Rattle.semver_base.specs.declared.range.PreRelease.{PreRelease}
 use Rattle.semver_req.specs.Requirement.{Requirement, inner_means_with, tag_of}
-use Rattle.answers.specs.Asking.{Fault, IsAnswer}
+use Rattle.answers.specs.Asking.{IsAnswer}
 use Rattle.answers.specs.Questions.{EquivalentOf}
 use Rattle.answers.specs.declared.asking.Answer.{Answer}
 use Rattle.answers.specs.declared.asking.Answer.TheVariants.{Tag, Value}
 use Rattle.answers.specs.AskingLaws.{by_value, by_fault}
+use Rattle.answers.proofs.Whether.{whether_answer}
 use Rattle.answers.proofs.questions.equivalent.Goals as goal
-
--- at most one of two booleans says whether
-same_whether : {E : Type 0} (b d : Bool) → (IsTrue b ↔ E) → (IsTrue d ↔ E) → b ≡ d
-same_whether true true h k = refl
-same_whether true false h k = absurd (cc (k.1 (h.0 refl)))
-same_whether false true h k = absurd (cc (h.1 (k.0 refl)))
-same_whether false false h k = refl
-
-abbrev as_whether : Bool → Result (Answer Bool) Fault
-as_whether same = Ok (Value same)
 
 -- without a tag, whether they match the same versions is the result
 equivalent_answer : (flag : PreRelease) (one other : Requirement) → tag_of one.inner ≡ None → tag_of other.inner ≡ None → (same : Bool) → (IsTrue same ↔ AreEquivalent (inner_means_with flag one.inner) (inner_means_with flag other.inner))
     → IsAnswer (EquivalentOf flag one other) (λ (a : Answer Bool). a) (Ok (Value same))
-equivalent_answer flag one other none no_other same h = record {
-  is = inr (rw (none, no_other) (same, h, refl));
-  only = λ o a.
-      let found = rw (none, no_other) at a in
-      inr (ap as_whether (same_whether same found.0 h found.1) ∙ sym found.2);
-}
+equivalent_answer flag one other none no_other same h =
+    rw (none, no_other) (whether_answer (AreEquivalent (inner_means_with flag one.inner) (inner_means_with flag other.inner)) same h)
 
 pub returns-in_err-one : goal.returns-in_err-one
 returns-in_err-one c =
