@@ -17,9 +17,9 @@ PRE = {"restricted": False, "admitted": True}
 BASES = {"zero": 0, "one": 1, "nothing": None}
 # How many options, a grammar and which pre-releases match, stand before the texts of a call.
 OPTIONS = {
-    **dict.fromkeys(("fits", "filter", "best", "lowest", "within", "equivalent", "common", "common_all", "min_version", "explain", "scans"), 2),
+    **dict.fromkeys(("fits", "above", "below", "filter", "best", "lowest", "within", "equivalent", "common", "common_all", "min_version", "explain", "scans"), 2),
     **dict.fromkeys(("intersects", "normal", "package", "equal", "is_tag", "ranges", "dependency", "errors", "package_errors"), 1),
-    **dict.fromkeys(("sort", "increment", "difference", "compare", "order", "version", "version_error", "may_be_tag", "reference", "reference_errors"), 0),
+    **dict.fromkeys(("sort", "increment", "coerce", "difference", "compare", "order", "version", "version_error", "may_be_tag", "reference", "reference_errors"), 0),
     **dict.fromkeys(("version_parts", "name_with_version", "version_reference", "export_name", "key"), 0),
 }
 
@@ -155,6 +155,8 @@ def unique(lines):
 def of_texts(name, texts, options):
     if name == "fits":
         return yes_or_no(semver.matches(*texts, **options))
+    if name in ("above", "below"):
+        return yes_or_no(getattr(semver, f"is_{name}")(texts[1], texts[0], **options))
     if name == "filter":
         lines = unique(listed(texts[1]))
         return each_answer(lines, semver.filter(texts[0], lines, skip_invalid=True, **options))
@@ -167,6 +169,9 @@ def of_texts(name, texts, options):
     if name == "increment":
         kind, base, version, identifier = texts
         return ["yes", semver.increment(version, kind, identifier=identifier, base=BASES[base])]
+    if name == "coerce":
+        version = semver.coerce(texts[1], rtl={"first": False, "last": True}[texts[0]])
+        return ["no"] if version is None else ["yes", version]
     if name == "difference":
         return [semver.difference(*texts) or "none"]
     if name == "compare":
@@ -236,6 +241,8 @@ def of_values(name, texts, options, again):
 
     if name == "fits":
         return yes_or_no(range_of(0).matches(version_of(1), **flag))
+    if name in ("above", "below"):
+        return yes_or_no(getattr(semver, f"is_{name}")(version_of(1), range_of(0), **flag))
     if name == "intersects":
         return yes_or_no(range_of(0).intersects(range_of(1)))
     if name == "equal":

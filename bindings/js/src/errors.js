@@ -92,7 +92,7 @@ export function withIndexes(error, indexes) {
 
 /** What is wrong with a text of a kind; null where it's valid. */
 function messageOf(kind, grammar, source) {
-  if (!isWellFormed(source)) return 'The text has a lone surrogate.';
+  if (!isWellFormed(source)) return 'The string has a lone surrogate.';
   const code = kind.parse(grammar, source);
   if (code === NO_MEMORY) throw outOfMemory();
   return code === YES ? null : text();
@@ -111,7 +111,7 @@ export function reasonOf(kind, grammar, source) {
 
 /** The error that a text of a kind is invalid; `index` is its place in a list. */
 export function invalid(kind, grammar, source, index) {
-  const message = messageOf(kind, grammar, source) ?? 'The text is invalid.';
+  const message = messageOf(kind, grammar, source) ?? 'The string is invalid.';
   return new kind.Problem(source, message, index, () => placeOf(kind, grammar, source));
 }
 

@@ -3,7 +3,7 @@
  *
  * A version is a string or a {@link Version}, and a range a string or a {@link Range}, of this copy of the package or of another.
  *
- * A text of another type throws `TypeError` with the parameter's name, an invalid text a {@link RangeSyntaxError} or a
+ * An argument of another type throws `TypeError` with the parameter's name, an invalid string a {@link RangeSyntaxError} or a
  * {@link VersionSyntaxError}, a range that is a tag a {@link TagError}, and running out of memory a `RangeError`.
  *
  * @packageDocumentation
@@ -43,26 +43,26 @@ export interface Options extends GrammarOptions {
   readonly preReleases?: boolean;
 }
 
-/** Why a text is invalid. */
+/** Why a string is invalid. */
 export interface Diagnosis {
   /** What is wrong. */
   readonly message: string;
   /** The index at which a range, a version, a package or a reference goes wrong; undefined of other texts, and of one with a lone surrogate. */
   readonly start?: number;
-  /** The index at which the text ends, or the alternative of its range with the whitespace behind it; undefined where `start` is. */
+  /** The index at which the string ends, or the alternative of its range with the whitespace behind it; undefined where `start` is. */
   readonly end?: number;
-  /** What could be at `start`: `digit`, `letter`, `whitespace`, `end`, `name`, or a text such as `.`. Empty for a version. */
+  /** What could be at `start`: `digit`, `letter`, `whitespace`, `end`, `name`, or a string such as `.`. Empty for a version. */
   readonly expected: readonly string[];
 }
 
-/** An invalid text. */
+/** An invalid string. */
 declare class InvalidTextError extends SyntaxError implements Diagnosis {
-  /** The text. */
+  /** The string. */
   readonly text: string;
   readonly start?: number;
   readonly end?: number;
   readonly expected: readonly string[];
-  /** The index of the text, if it's an item of a list. */
+  /** The index of the string, if it's an item of a list. */
   readonly index?: number;
 }
 
@@ -132,11 +132,11 @@ export class Range {
    * @throws {@link RangeSyntaxError}
    */
   constructor(range: string | Range, options?: Options);
-  /** The text. */
+  /** The string. */
   get text(): string;
   /** The canonical form: the shortest usual form, meant to be stored. */
   get canonical(): string;
-  /** The tag, if the text is one. */
+  /** The tag, if the string is one. */
   get tag(): string | undefined;
   /**
    * Whether the version matches.
@@ -154,9 +154,9 @@ export class Range {
    * @example new Range('^1.2').scans() // [{ isPre: false, low: 'A1A2A0~', high: 'A2A0A0~' }]
    */
   scans(): Scan[];
-  /** The text. */
+  /** The string. */
   toString(): string;
-  /** The text. */
+  /** The string. */
   toJSON(): string;
   /** Frees the range. Its methods throw `TypeError` then. */
   free(): void;
@@ -243,11 +243,27 @@ export class IncrementError extends Error {
 export function increment(version: string | Version, releaseType: ReleaseType, options?: PreReleaseStart): string;
 
 /**
+ * The first version in a string, one to three numbers with a dot between neighbours, or undefined. With `rtl` it is the one that ends last.
+ * @example coerce('v3.4 replaces 3.3.1') // '3.4.0'
+ */
+export function coerce(text: string, options?: { rtl?: boolean }): string | undefined;
+
+/**
  * Of which kind the step between two versions is, in either direction; `null` if they have the same precedence.
  * @example difference('1.2.3', '1.3.0-rc.1') // 'preminor'
  * @throws {@link VersionSyntaxError}
  */
 export function difference(one: string | Version, other: string | Version): Exclude<ReleaseType, 'release'> | null;
+
+/**
+ * Whether the version is above each version that the range matches.
+ * @example isAbove('2.0.0', '^1.2') // true
+ * @throws {@link RangeSyntaxError} {@link VersionSyntaxError} {@link TagError}
+ */
+export function isAbove(version: string | Version, range: string | Range, options?: Options): boolean;
+
+/** Whether the version is below each version that the range matches. */
+export function isBelow(version: string | Version, range: string | Range, options?: Options): boolean;
 
 /** Whether `other` matches each version that `one` matches. */
 export function isSubset(one: string | Range, other: string | Range, options?: Options): boolean;
@@ -280,7 +296,7 @@ export interface Bound {
 
 /** An alternative of a range. */
 export interface ValidAlternative {
-  /** Its text, without the whitespace around it. */
+  /** The string, without the whitespace around it. */
   readonly text: string;
   /** Where it starts; null where it has no lower bound. */
   readonly start: Bound | null;
@@ -295,7 +311,7 @@ export interface ValidAlternative {
 
 /** An alternative that isn't valid, which npm's grammar leaves out. */
 export interface InvalidAlternative {
-  /** Its text, without the whitespace around it. */
+  /** The string, without the whitespace around it. */
   readonly text: string;
   /** Why it's invalid. The indexes are of the whole range. */
   readonly error: Diagnosis;
@@ -318,7 +334,7 @@ export interface PackageParts {
   readonly scope: string | null;
   /** The name without its scope. */
   readonly name: string;
-  /** The text of the range, `*` where there is none. */
+  /** The string of the range, `*` where there is none. */
   readonly range: string;
   /** The canonical form of the range. */
   readonly canonical: string;
@@ -376,7 +392,7 @@ export interface DependencyParts {
   readonly kind: 'jsr' | 'npm';
   /** The package. */
   readonly package: PackageParts;
-  /** The canonical form of the whole text. */
+  /** The canonical form of the whole string. */
   readonly canonical: string;
 }
 
@@ -397,6 +413,13 @@ export function parseVersionReference(specifier: string): VersionReferenceParts;
  * @throws {@link PackageSyntaxError}
  */
 export function parseDependency(specifier: string, options?: GrammarOptions): DependencyParts;
+
+/**
+ * The name of the export that the path of a module in a JSR package means.
+ * @example exportName('mod.ts') // './mod.ts'
+ * @throws {@link PackageSyntaxError} if the path has a lone surrogate
+ */
+export function exportName(path: string): string;
 
 /** Whether npm's rules allow the name as a tag. */
 export function mayBeTag(name: string): boolean;

@@ -33,6 +33,23 @@ export function matches(range, version, options) {
   throw errorOf(code, grammar, [source], [tested]);
 }
 
+/** Asks about a range and a version; the answer is yes or no. */
+function askOutside(call, version, range, options) {
+  const tested = versionText(version, 'version');
+  const { source, grammar, pre } = questionOfOne(range, options);
+  const code = ask2(call, grammar, source, tested, pre);
+  if (code >= 0) return code === YES;
+  throw errorOf(code, grammar, [source], [tested]);
+}
+
+export function isAbove(version, range, options) {
+  return askOutside(wasm.above, version, range, options);
+}
+
+export function isBelow(version, range, options) {
+  return askOutside(wasm.below, version, range, options);
+}
+
 /** Whether invalid versions are left out. */
 function skipsInvalid(options) {
   return expectBoolean(options?.skipInvalid ?? false, 'options.skipInvalid');
@@ -86,6 +103,14 @@ export function increment(version, releaseType, options = {}) {
   const written = text();
   if (code === INVALID_VERSION || code === NOT_UTF8) new Version(source); // which throws if this is the one that is invalid
   return nextVersion(code, written, source);
+}
+
+export function coerce(source, options) {
+  expectOptions(options, ['rtl']);
+  const tested = expectString(source, 'text');
+  const code = ask1(wasm.coerce, expectBoolean(options?.rtl ?? false, 'options.rtl') ? 1 : 0, tested);
+  if (code >= 0) return code === YES ? text() : undefined;
+  throw errorOf(code, 0, [], [tested]);
 }
 
 export function difference(one, other) {
@@ -187,6 +212,12 @@ export function parseVersionReference(specifier) {
 export function parseDependency(specifier, options) {
   const found = partsOfKind(DEPENDENCY, grammarOf(options), specifier);
   return { kind: found.kind, package: packageOf(found.package), canonical: found.normal };
+}
+
+export function exportName(path) {
+  const code = wasm.export_name(write(expectString(path, 'path')));
+  if (code === YES) return text();
+  throw code === NO_MEMORY ? outOfMemory() : invalid(PACKAGE, 0, path);
 }
 
 /** The parts of a text of a kind, from the JSON of the call that parses it. */

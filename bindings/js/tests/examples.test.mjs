@@ -28,6 +28,9 @@ const named = {
   satisfies: (version, range) => orElse(false, () => main.matches(range, version)),
   minVersion: (range) => orElse(null, () => main.minVersion(range)),
   subset: (one, other) => orElse(null, () => main.isSubset(one, other)),
+  gtr: (version, range) => orElse(false, () => main.isAbove(version, range)),
+  ltr: (version, range) => orElse(false, () => main.isBelow(version, range)),
+  coerce: (text) => orElse(null, () => main.coerce(text)),
   validRange: (range) => orElse(null, () => main.canonical(range)),
   valid: (version) => orElse(null, () => String(new main.Version(version))),
 };

@@ -43,6 +43,8 @@ function alternativeJson({ text, error, start, end, lowest, preReleases }) {
 /** How the calls that name a grammar answer. */
 const WITH_GRAMMAR = {
   fits: (o, range, version) => yesIf(semver.matches(range, version, o)),
+  above: (o, range, version) => yesIf(semver.isAbove(version, range, o)),
+  below: (o, range, version) => yesIf(semver.isBelow(version, range, o)),
   filter: (o, range, text) => {
     const lines = linesOf(text);
     const invalid = lines.map((line) => isEncodable(line) && thrown(() => new Version(line)) !== undefined);
@@ -110,9 +112,11 @@ const CALLS = {
   sort: (text) => sortedPlaces(linesOf(text), semver.sort(linesOf(text))),
   list_sort: (text) => sortedPlaces(linesOf(text), new semver.VersionList(linesOf(text)).sort()),
   increment: (type, base, version, identifier) => ['yes', semver.increment(version, type, { identifier, base: BASES[base] ?? base })],
+  coerce: (end, text) => textOr(semver.coerce(text, { rtl: { first: false, last: true }[end] ?? end })),
   difference: (one, other) => [semver.difference(one, other) ?? 'none'],
   compare: (one, other) => orderOf(new Version(one).compare(other)),
   version: (text) => ['yes', String(new Version(text))],
+  export_name: (path) => ['yes', semver.exportName(path)],
   key: (text) => ['yes', new Version(text).sortKey],
   version_error: (text) => {
     const error = thrown(() => new Version(text));

@@ -4,8 +4,20 @@ EXPORT(int32_t, fits)(uint32_t grammar, uint32_t range_len, uint32_t version_len
     WRITES(semver_fits(grammar, TEXT(0, range_len), TEXT(range_len, version_len), pre_releases, OUT, &needed));
 }
 
+EXPORT(int32_t, above)(uint32_t grammar, uint32_t range_len, uint32_t version_len, uint32_t pre_releases) {
+    WRITES(semver_above(grammar, TEXT(0, range_len), TEXT(range_len, version_len), pre_releases, OUT, &needed));
+}
+
+EXPORT(int32_t, below)(uint32_t grammar, uint32_t range_len, uint32_t version_len, uint32_t pre_releases) {
+    WRITES(semver_below(grammar, TEXT(0, range_len), TEXT(range_len, version_len), pre_releases, OUT, &needed));
+}
+
 EXPORT(int32_t, increment)(uint32_t release_type, uint32_t version_len, uint32_t identifiers_len, uint32_t base) {
     WRITES(semver_increment(release_type, TEXT(0, version_len), TEXT(version_len, identifiers_len), base, OUT, &needed));
+}
+
+EXPORT(int32_t, coerce)(uint32_t first_or_last, uint32_t text_len) {
+    WRITES(semver_coerce(first_or_last, TEXT(0, text_len), OUT, &needed));
 }
 
 EXPORT(int32_t, difference)(uint32_t one_len, uint32_t other_len) {

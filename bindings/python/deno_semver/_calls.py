@@ -61,7 +61,7 @@ def encoded(text: Any, name: str, error: Type[SemverError], index: Optional[int]
     try:
         return text.encode()
     except UnicodeEncodeError as invalid:
-        raise error("The text has a lone surrogate.", text, index, invalid.start, invalid.end) from None
+        raise error("The string has a lone surrogate.", text, index, invalid.start, invalid.end) from None
 
 
 def grammar_number(grammar: Any) -> int:

@@ -58,14 +58,37 @@ def matches(range: AnyRange, version: AnyVersion, *, grammar: Optional[Grammar] 
     Traceback (most recent call last):
     deno_semver._errors.TagError: 'latest': The range is a tag.
     """
+    return _ask("fits", range, version, grammar, pre_releases)
+
+
+def _ask(name: str, range: AnyRange, version: AnyVersion, grammar: Optional[Grammar], pre_releases: bool) -> bool:
+    """Asks about a range and a version."""
     source, text, number = range_text(range, "range", grammar)
     other = _version_text(version, "version")
-    code, _ = read("fits", number, source, len(source), other, len(other), pre_number(pre_releases))
+    code, _ = read(name, number, source, len(source), other, len(other), pre_number(pre_releases))
     if code >= 0:
         return code == YES
     if code == INVALID_VERSION:
         return fail_version(code, str(version))
     return fail_range(code, text, number)
+
+
+def is_above(version: AnyVersion, range: AnyRange, *, grammar: Optional[Grammar] = None, pre_releases: bool = False) -> bool:
+    """Whether the version is above each version that the range matches.
+
+    >>> is_above("2.0.0", "^1.2"), is_above("1.9.0", "^1.2 || 3")
+    (True, False)
+    """
+    return _ask("above", range, version, grammar, pre_releases)
+
+
+def is_below(version: AnyVersion, range: AnyRange, *, grammar: Optional[Grammar] = None, pre_releases: bool = False) -> bool:
+    """Whether the version is below each version that the range matches.
+
+    >>> is_below("1.1.9", "^1.2")
+    True
+    """
+    return _ask("below", range, version, grammar, pre_releases)
 
 
 def filter(
@@ -100,9 +123,16 @@ def filter(
     return found
 
 
-def _best(call: str, range: AnyRange, versions: Iterable[V], grammar: Optional[Grammar], pre_releases: bool) -> Optional[V]:
+def _valid(versions: Iterable[V]) -> List[V]:
+    """The versions, without what isn't one."""
+    return filter("*", versions, pre_releases=True, skip_invalid=True)
+
+
+def _best(
+    call: str, range: AnyRange, versions: Iterable[V], grammar: Optional[Grammar], pre_releases: bool, skip_invalid: bool
+) -> Optional[V]:
     source, text, number = range_text(range, "range", grammar)
-    listed, lines = version_lines(versions)
+    listed, lines = version_lines(_valid(versions) if skip_invalid else versions)
     place = c_size_t()
     code = CALLS[call](number, source, len(source), lines, len(lines), pre_number(pre_releases), byref(place))
     if code >= 0:
@@ -112,31 +142,47 @@ def _best(call: str, range: AnyRange, versions: Iterable[V], grammar: Optional[G
     return fail_range(code, text, number)
 
 
-def best(range: AnyRange, versions: Iterable[V], *, grammar: Optional[Grammar] = None, pre_releases: bool = False) -> Optional[V]:
+def best(
+    range: AnyRange,
+    versions: Iterable[V],
+    *,
+    grammar: Optional[Grammar] = None,
+    pre_releases: bool = False,
+    skip_invalid: bool = False,
+) -> Optional[V]:
     """The highest of the versions that matches, the first of equal ones, or None.
 
     >>> best("^1.2", ["1.2.0", "1.10.0", "2.0.0"])
     '1.10.0'
     """
-    return _best("best", range, versions, grammar, pre_releases)
+    return _best("best", range, versions, grammar, pre_releases, skip_invalid)
 
 
-def lowest(range: AnyRange, versions: Iterable[V], *, grammar: Optional[Grammar] = None, pre_releases: bool = False) -> Optional[V]:
+def lowest(
+    range: AnyRange,
+    versions: Iterable[V],
+    *,
+    grammar: Optional[Grammar] = None,
+    pre_releases: bool = False,
+    skip_invalid: bool = False,
+) -> Optional[V]:
     """The lowest of the versions that matches, the first of equal ones, or None.
 
     >>> lowest("^1.2", ["1.10.0", "1.2.0", "1.0.0"])
     '1.2.0'
     """
-    return _best("lowest", range, versions, grammar, pre_releases)
+    return _best("lowest", range, versions, grammar, pre_releases, skip_invalid)
 
 
-def sort(versions: Iterable[V], *, reverse: bool = False) -> List[V]:
+def sort(versions: Iterable[V], *, reverse: bool = False, skip_invalid: bool = False) -> List[V]:
     """The versions by precedence; those that differ only in the build keep their order.
 
     >>> sort(["1.10.0", "1.9.0", "1.9.0-rc.1"])
     ['1.9.0-rc.1', '1.9.0', '1.10.0']
+    >>> sort(["1.10.0", "nightly", "1.9.0"], skip_invalid=True)
+    ['1.9.0', '1.10.0']
     """
-    listed, lines = version_lines(versions)
+    listed, lines = version_lines(_valid(versions) if skip_invalid else versions)
     if reverse:
         listed.reverse()
         lines = _lines(_version_text(version, "versions") for version in listed)
@@ -196,6 +242,23 @@ def increment(version: V, release_type: ReleaseType, *, identifier: str = "", ba
     if code != YES:
         fail_version(code, str(version))
     return type(version)(written)
+
+
+def coerce(text: str, *, rtl: bool = False) -> Optional[str]:
+    """The first version in a string, one to three numbers with a dot between neighbours; with `rtl` the one that ends last.
+
+    >>> coerce("v3.4 replaces 3.3.1"), coerce("v3.4 replaces 3.3.1", rtl=True)
+    ('3.4.0', '3.3.1')
+    >>> coerce("latest") is None
+    True
+    """
+    if not isinstance(rtl, bool):
+        wrong_type(rtl, "rtl", "bool")
+    source = encoded(text, "text", InvalidVersion)
+    code, written = read("coerce", int(rtl), source, len(source))
+    if code >= 0:
+        return written if code == YES else None
+    return fail_version(code, text)
 
 
 def difference(one: AnyVersion, other: AnyVersion) -> Optional[ReleaseType]:

@@ -23,7 +23,10 @@ HANDLE = POINTER(Handle)
 
 TABLE: Dict[str, Tuple[Any, ...]] = {
     "fits": (c_int32, c_uint32, *TEXT, *TEXT, c_uint32, *TEXT, SIZE),
+    "above": (c_int32, c_uint32, *TEXT, *TEXT, c_uint32, *TEXT, SIZE),
+    "below": (c_int32, c_uint32, *TEXT, *TEXT, c_uint32, *TEXT, SIZE),
     "increment": (c_int32, c_uint32, *TEXT, *TEXT, c_uint32, *TEXT, SIZE),
+    "coerce": (c_int32, c_uint32, *TEXT, *TEXT, SIZE),
     "difference": (c_int32, *TEXT, *TEXT, SIZE),
     "compare": (c_int32, *TEXT, *TEXT, SIZE),
     "intersects": (c_int32, c_uint32, *TEXT, *TEXT, SIZE),

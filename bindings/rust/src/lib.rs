@@ -44,7 +44,7 @@ pub use error::{ParseErrorFailureError, Place};
 pub use partial::{Partial, XRange};
 pub use range::{PackageTag, RangeBound, RangeSetOrTag, VersionBound, VersionBoundKind, VersionRange, VersionRangeSet};
 pub use scan::Scan;
-pub use step::{Base, IncrementError, ReleaseType};
+pub use step::{Base, Coerced, IncrementError, ReleaseType};
 pub use string::{SmallStackString, StackString};
 pub use version::{Version, VersionParseError, VersionParts, VersionPreOrBuild};
 pub use version_req::{VersionReq, VersionReqNormalizedParseError, VersionReqSpecifierParseError};

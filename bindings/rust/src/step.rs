@@ -1,7 +1,7 @@
 //! The step from a version to another.
 
-use crate::calls::{failed, with_text, NO_INCREMENT, YES};
-use crate::externs::{semver_difference, semver_increment};
+use crate::calls::{failed, with_text, NO, NO_INCREMENT, YES};
+use crate::externs::{semver_coerce, semver_difference, semver_increment};
 use crate::Version;
 
 /// A kind of release, by which step a version comes next.
@@ -37,6 +37,17 @@ pub enum Base {
     One = 1,
     /// None, so that `-beta` comes before `-beta.0`.
     Nothing = 2,
+}
+
+/// Which of the versions in a string [`Version::coerce`] returns.
+#[derive(Clone, Copy, Debug, Default, PartialEq, Eq)]
+#[repr(u32)]
+pub enum Coerced {
+    /// The first.
+    #[default]
+    First = 0,
+    /// The one that ends last.
+    Last = 1,
 }
 
 /// Why no version follows.
@@ -75,6 +86,24 @@ impl Version {
             },
         )?;
         Ok(next.expect("the text of a version is one"))
+    }
+
+    /// The version that a string holds, one to three numbers with a `.` between neighbours; none if there is no number. The numbers that are
+    /// missing are 0.
+    ///
+    /// ```
+    /// use deno_semver_proved::{Coerced, Version};
+    ///
+    /// let text = "v3.4 replaces 3.3.1";
+    /// assert_eq!(Version::coerce(text, Coerced::First).unwrap().to_string(), "3.4.0");
+    /// assert_eq!(Version::coerce(text, Coerced::Last).unwrap().to_string(), "3.3.1");
+    /// ```
+    pub fn coerce(text: &str, which: Coerced) -> Option<Version> {
+        with_text(|out, needed| semver_coerce(which as u32, text, out, needed), |code, text| match code {
+            YES => Version::parse_valid(text),
+            NO => None,
+            _ => failed(code),
+        })
     }
 
     /// Of which kind the step between two versions is, in either direction; none if they have the same precedence.

@@ -149,6 +149,14 @@ impl VersionReq {
         is_match.unwrap_or_else(|| panic!("the requirement is the tag {self}"))
     }
 
+    // The answer of a call about this and a version.
+    fn ask(&self, version: &Version, pre_release: PreRelease, call: OfVersion) -> bool {
+        let Parsed { grammar, text, .. } = self.parsed();
+        let version = version.to_string();
+        let ask = |out: &mut [u8], needed: &mut usize| call(*grammar as u32, text, &version, pre_release as u32, out, needed);
+        answer(with_text(ask, |code, _| code)).unwrap_or_else(|| panic!("the requirement is the tag {self}"))
+    }
+
     /// Whether both overlap by their bounds; two tags do if they are the same.
     #[inline]
     pub fn intersects(&self, other: &VersionReq) -> bool {
@@ -251,3 +259,33 @@ parse_error!(
     VersionReqSpecifierParseError,
     "Invalid specifier version requirement"
 );
+
+// A call about a range and a version.
+type OfVersion = fn(u32, &str, &str, u32, &mut [u8], &mut usize) -> i32;
+
+impl Version {
+    /// Whether this is above each version that the requirement matches, by npm's rule for pre-releases or without it.
+    ///
+    /// ```
+    /// # use deno_semver_proved::{PreRelease, Version, VersionReq};
+    /// let version = Version::parse_standard("2.0.0").unwrap();
+    /// let req = VersionReq::parse_from_npm("^1.2").unwrap();
+    /// assert!(version.is_above(&req, PreRelease::Restricted));
+    /// ```
+    ///
+    /// # Panics
+    ///
+    /// If the requirement is a tag.
+    pub fn is_above(&self, req: &VersionReq, pre_release: PreRelease) -> bool {
+        req.ask(self, pre_release, semver_above)
+    }
+
+    /// Whether this is below each version that the requirement matches, like [`Version::is_above`].
+    ///
+    /// # Panics
+    ///
+    /// If the requirement is a tag.
+    pub fn is_below(&self, req: &VersionReq, pre_release: PreRelease) -> bool {
+        req.ask(self, pre_release, semver_below)
+    }
+}

@@ -7,7 +7,7 @@ use deno_semver_proved::lowest::{self, Lowest};
 use deno_semver_proved::npm::is_valid_npm_tag;
 use deno_semver_proved::package::{json, PackageReq};
 use deno_semver_proved::{
-    Base, Grammar, InvalidRange, Place, PreRelease, RangeBound, RangeSetOrTag, ReleaseType, Version, VersionBoundKind,
+    Base, Coerced, Grammar, InvalidRange, Place, PreRelease, RangeBound, RangeSetOrTag, ReleaseType, Version, VersionBoundKind,
     VersionRange, VersionReq, WILDCARD_VERSION_REQ,
 };
 use std::error::Error;
@@ -86,6 +86,11 @@ fn pairs<T>(ones: [T; 2], others: [T; 2], same: bool, ask: fn(&T, &T) -> String)
     Ok(ones.iter().zip(&others).map(|(one, other)| ask(one, other)).chain(itself).collect())
 }
 
+/// The answers about each requirement and a version.
+fn of_version(reqs: Result<[VersionReq; 2], String>, version: &str, ask: impl Fn(&VersionReq, &Version) -> String) -> Answers {
+    Ok(reqs?.iter().zip(versions(version)?).map(|(req, version)| ask(req, &version)).collect())
+}
+
 fn fits(req: &VersionReq, version: &Version, pre_release: PreRelease) -> String {
     let Some(ranges) = req.range() else {
         return "tag".to_string();
@@ -93,6 +98,11 @@ fn fits(req: &VersionReq, version: &Version, pre_release: PreRelease) -> String 
     let fits = req.matches_with(version, pre_release);
     assert!(pre_release == PreRelease::Admitted || req.matches(version) == fits && ranges.satisfies(version) == fits);
     yes_or_no(fits)
+}
+
+/// Whether a version lies outside the requirement, which may be a tag.
+fn lies(req: &VersionReq, ask: impl FnOnce(&VersionReq) -> bool) -> String {
+    if req.tag().is_some() { "tag".to_string() } else { yes_or_no(ask(req)) }
 }
 
 fn filter(grammar: Grammar, requirement: &str, versions: &str, pre_release: PreRelease) -> Answers {
@@ -334,8 +344,15 @@ fn ask(question: &[&str]) -> Option<Answers> {
     let reqs = |grammar, one, other, ask| pairs(requirements(grammar, one)?, requirements(grammar, other)?, same, ask);
     Some(match *question {
         [_, "unknown", ..] => return None,
-        ["fits", grammar, _, requirement, version] => requirements(grammar, requirement)
-            .and_then(|reqs| Ok(reqs.iter().zip(versions(version)?).map(|(req, version)| fits(req, &version, flag)).collect())),
+        ["fits", grammar, _, requirement, version] => {
+            of_version(requirements(grammar, requirement), version, |req, version| fits(req, version, flag))
+        }
+        ["above", grammar, _, requirement, version] => of_version(requirements(grammar, requirement), version, |req, version| {
+            lies(req, |req| version.is_above(req, flag))
+        }),
+        ["below", grammar, _, requirement, version] => of_version(requirements(grammar, requirement), version, |req, version| {
+            lies(req, |req| version.is_below(req, flag))
+        }),
         ["increment", kind, base, version, identifiers] => {
             let (kind, base) = (RELEASE_TYPES[place_of(kind, &KINDS)?], BASES[place_of(base, &["zero", "one", "nothing"])?]);
             versions(version).and_then(|all| {
@@ -348,6 +365,10 @@ fn ask(question: &[&str]) -> Option<Answers> {
                     .map(Ok)
                     .collect()
             })
+        }
+        ["coerce", which, text] => {
+            let which = [Coerced::First, Coerced::Last][place_of(which, &["first", "last"])?];
+            Version::coerce(text, which).map_or(answer(&["no"]), |version| answer(&["yes", &version.to_string()]))
         }
         ["difference", one, other] => versions(one).and_then(|one| pairs(one, versions(other)?, same, difference)),
         ["compare", one, other] => versions(one).and_then(|one| pairs(one, versions(other)?, same, precedence)),
