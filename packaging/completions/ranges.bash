@@ -11,7 +11,7 @@ _ranges() {
         any-zero|contained-alternative|disjoint-sections|dropped-alternative|duplicate-key|empty-alternative|ignored-comparator|meta-without-range|no-match|not-canonical|npm-differs|odd-engine|odd-path|odd-tag|pre-release-bound|unmatched-workspace) COMPREPLY=($(compgen -W "off warn error" -- "$word")); return ;;
     esac
     if [ "$COMP_CWORD" = 1 ]; then
-        COMPREPLY=($(compgen -W "check asked explain canonical normal min common within overlap scans package reference filter matches best outdated compare sort key increment difference help --help --version" -- "$word"))
+        COMPREPLY=($(compgen -W "check asked explain canonical normal min common within overlap scans package reference filter matches best outdated compare sort key increment difference coerce help --help --version" -- "$word"))
         return
     fi
     case ${COMP_WORDS[1]} in
@@ -34,6 +34,7 @@ _ranges() {
         key) options="--color -j --json -0 --null --tags --skip-invalid -h --help -V --version" ;;
         increment) options="--color -j --json --preid --base -h --help -V --version" ;;
         difference) options="--color -j --json -q --quiet -h --help -V --version" ;;
+        coerce) options="--color -j --json --rtl -h --help -V --version" ;;
     esac
     case $word in -*) COMPREPLY=($(compgen -W "$options" -- "$word")); return ;; esac
     case ${COMP_WORDS[1]} in check)

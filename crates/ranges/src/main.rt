@@ -90,6 +90,7 @@ fn perform<R: Runtime + AllocGlobal, O: Write, E: Write>(
         "compare" => comparing::compare(console, given),
         "increment" => stepping::increment(console, given),
         "difference" => stepping::difference(console, given),
+        "coerce" => stepping::coerce(console, given),
         "scans" => scanned::report(console, given),
         "package" => packaged::report_package(console, given),
         "reference" => packaged::report_reference(console, given),

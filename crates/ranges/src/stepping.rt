@@ -1,7 +1,9 @@
-//! `ranges increment` and `ranges difference`: the steps from one version to another.
+//! `ranges increment` and `ranges difference`, the steps from one version to another, and `ranges coerce`.
 
 use crate::comparing::{print_answer, reject};
+use answers::questions::text_of_version;
 use answers::steps;
+use node_semver::coerce::{self, Direction};
 use node_semver::identifiers::identifiers;
 use node_semver::increment::Base;
 use node_semver::release_type::ReleaseType;
@@ -55,5 +57,24 @@ pub fn difference<O: Write, E: Write>(
         Ok(Some(kind)) => print_answer(console, "difference", Some(kind.name())),
         Ok(None) => print_answer(console, "difference", None),
         Err(problem) => reject(console, &[one, other], &problem),
+    }
+}
+
+/// `ranges coerce TEXT`: the version that the string holds, or `none`.
+pub fn coerce<O: Write, E: Write>(
+    console: &mut Console<O, E>,
+    given: Given<'_, '_>,
+) -> Result<Status, Stop> {
+    let direction = if given.has("rtl") {
+        Direction::RightToLeft
+    } else {
+        Direction::LeftToRight
+    };
+    match coerce::coerce(console.alloc, given.text("TEXT"), direction) {
+        Some(version) => {
+            let version = text_of_version(console.alloc, &version)?;
+            print_answer(console, "version", Some(version.as_str()))
+        }
+        None => print_answer(console, "version", None),
     }
 }

@@ -333,6 +333,18 @@ const REFERENCE: Argument = Argument {
     help: "The reference, such as jsr:@scope/name@1/mod.ts",
 };
 
+const HOLDING: Argument = Argument {
+    name: "TEXT",
+    form: Form::Text(true),
+    help: "The string that holds a version",
+};
+
+const RTL: Argument = Argument {
+    name: "rtl",
+    form: Form::Flag(None, &[]),
+    help: "Print the version that ends last",
+};
+
 fn option<'a>(alloc: Global, argument: &Argument, short: Option<char>) -> Arg<'a> {
     let option = Arg::new(alloc, argument.name).long(argument.name);
     match short {
@@ -569,6 +581,15 @@ Examples:
 Examples:
   ranges difference 1.2.3 1.3.0
   ranges difference --json 1.0.0-rc.1 1.0.0",
+    },
+    Entry {
+        name: "coerce",
+        about: "Print the version that a string holds",
+        arguments: &[JSON, RTL, HOLDING],
+        examples: "\
+Examples:
+  ranges coerce v1.2
+  ranges coerce --rtl 'node 20.11 replaces 18.19.1'",
     },
 ];
 

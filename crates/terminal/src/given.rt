@@ -107,6 +107,11 @@ impl<'g, 'm> Given<'g, 'm> {
         }
     }
 
+    /// Whether the flag with this name was given.
+    pub fn has(&self, name: &str) -> bool {
+        self.matches.get_flag(name)
+    }
+
     /// All texts of the argument with this name.
     pub fn texts(&self, alloc: Global, name: &str) -> Result<Vec<&'g str>, AllocError> {
         let mut texts = Vec::new(alloc);
