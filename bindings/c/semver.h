@@ -1,25 +1,26 @@
 /* SPDX-License-Identifier: MIT */
 /* deno_semver, proved: its calls from C.
  *
- * A string is UTF-8 bytes and a length. No call looks for a NUL byte behind it, or writes one. For every call:
+ * A string is UTF-8 bytes and a length. No call looks for a NUL byte after it, or writes one. For every call:
  * - Pass no null pointer, even with length 0. What a pointer leads to must live, and not change, while the call runs.
  * - What a call may write, which it takes without `const`, must not overlap any other argument. Two `const` arguments may be the same.
  * - No call keeps a pointer that you pass. Several threads may call at once, each with its own memory for what a call may write. Don't
  *   call from a signal handler, nor in the forked child of a program that has threads.
- * - `malloc`, `realloc` and `free` must belong to one allocator, which aligns a block to each power of two up to 16 that divides its
- *   size.
+ * - `malloc`, `realloc` and `free` must belong to one allocator. It must align a block to the largest power of two, up to 16, that
+ *   divides the block's size.
  *
- * A call returns a code: 0 or more is an answer, and a negative code says why there is none. So `semver_fits(..) > 0` is true exactly
- * if the version matches. A call checks `const` handles first, then the grammar's number, then whether each string is UTF-8, then each
+ * A call returns a code: 0 or more is an answer, and a negative code says why there is none. So `semver_fits(..) > 0` is true exactly if
+ * the version matches. A call checks `const` handles first, then the grammar's number, then whether each string is UTF-8, then each
  * string from the left; the first that is invalid decides.
  *
- * A call writes its string to the start of `out` if it fits, and leaves the rest; if it doesn't fit, `out` stays as it was. The length is
- * stored in `*needed` either way, 0 if there is no string. With codes from SEMVER_INVALID_RANGE down the string is an error message. If
- * you want no string, pass a buffer of length 0.
+ * A call writes its string to the start of `out` if it fits, and leaves the rest; if it doesn't fit, `out` stays as it was. The length
+ * is stored in `*needed` either way, 0 if there is no string. If the code is SEMVER_INVALID_RANGE or below, the string is an error
+ * message. If you want no string, pass a buffer of length 0.
  *
- * A call with several arguments of one kind stores in `*place` which one is invalid, with SEMVER_INVALID_RANGE and
- * SEMVER_INVALID_VERSION: the first or the second of two, or the line of a list, counted from 0. With any other code `*place` stays as it
- * was, unless said otherwise. A line ends at "\n" or "\r\n", and none follows the last; an empty string has no line. */
+ * Some calls take several arguments of one kind. With SEMVER_INVALID_RANGE or SEMVER_INVALID_VERSION they store in `*place` which one is
+ * invalid, counted from 0: the first or the second of two, or the line of a list. With any other code `*place` stays as it was, unless
+ * said otherwise. A line ends at "\n" or "\r\n". After the last of these there is no further, empty line, and an empty string has no
+ * line. */
 #ifndef SEMVER_H
 #define SEMVER_H
 
@@ -55,7 +56,7 @@ enum {
     SEMVER_NO_DIFFERENCE = 8
 };
 
-/* the number behind the identifiers of a first pre-release, or none */
+/* the number after the identifiers of a first pre-release, or none */
 enum { SEMVER_BASE_ZERO = 0, SEMVER_BASE_ONE = 1, SEMVER_NO_BASE = 2 };
 
 /* which of the versions in a string semver_coerce returns: the first, or the one that ends last */
@@ -70,7 +71,7 @@ enum {
     SEMVER_INVALID_RANGE = -2,   /* a range, a package or a reference is invalid */
     SEMVER_INVALID_VERSION = -3,
     SEMVER_NOT_UTF8 = -4,        /* bytes aren't valid UTF-8 */
-    SEMVER_NO_GRAMMAR = -5,      /* nothing has this number: no grammar, no kind of step, no base, neither end of a string, nothing that semver_why asks about */
+    SEMVER_NO_GRAMMAR = -5,      /* no grammar has this number; or no kind of step, base or other choice of the call */
     SEMVER_NO_MEMORY = -6,       /* out of memory */
     SEMVER_NO_VALUE = -7,        /* a handle is empty, or holds a value of another kind */
     SEMVER_NO_INCREMENT = -8     /* there is no next version, or the identifiers of its pre-release are invalid */
@@ -120,22 +121,24 @@ int32_t semver_sort(const char *versions, size_t versions_len, size_t *places, s
 int32_t semver_compare(const char *one, size_t one_len, const char *other, size_t other_len, size_t *place);
 
 /* The next version of a kind, without a build: YES. It is the next release, or the first pre-release of it, which has your identifiers,
- * separated by ".", and then the number of `base`. SEMVER_PATCH of 1.2.3-rc.1 is its own release, 1.2.3; so are SEMVER_MINOR and
- * SEMVER_MAJOR where the numbers behind are 0. SEMVER_PRERELEASE raises the last number of a pre-release that begins with the identifiers
- * and goes on with a number, and without identifiers of any pre-release. A pre-release with other identifiers gets yours, and so may come
- * before the version. The code is NO_INCREMENT if a number would exceed 18446744073709551615, if you ask for the SEMVER_RELEASE of a
- * release, or if the pre-release would be empty or that of the version. */
+ * separated by ".", and then the number of `base`. SEMVER_PATCH of 1.2.3-rc.1 is its own release, 1.2.3. SEMVER_MINOR and SEMVER_MAJOR
+ * of a pre-release also give its own release, if the numbers after the minor or the major one are 0. SEMVER_PRERELEASE raises the last
+ * number of a pre-release that begins with your identifiers and goes on with a number. If you give no identifiers, it raises the last
+ * number of any pre-release. A pre-release with other identifiers gets yours, and so may come before the version. The code is
+ * NO_INCREMENT if a number would exceed 18446744073709551615, if you ask for the SEMVER_RELEASE of a release, or if the new pre-release
+ * would be empty or the same as the old one. */
 int32_t semver_increment(uint32_t release_type, const char *version, size_t version_len,
                          const char *identifiers, size_t identifiers_len, uint32_t base,
                          char *out, size_t out_len, size_t *needed);
 
-/* The version that a string holds: YES, with one to three numbers with a "." between neighbours, 0 for each that is missing; or NO. A
- * number may have leading zeros; one above 18446744073709551615 belongs to no version. `first_or_last` is SEMVER_FIRST or SEMVER_LAST. */
+/* The version that a string holds: YES or NO. In the string it is one to three numbers separated by "."; a missing number is 0. A number
+ * may have leading zeros; one above 18446744073709551615 belongs to no version. `first_or_last` is SEMVER_FIRST or SEMVER_LAST. */
 int32_t semver_coerce(uint32_t first_or_last, const char *text, size_t text_len, char *out, size_t out_len, size_t *needed);
 
-/* The kind of the step between two versions, in either direction: that of the first number that differs, and of its pre-release if the
- * higher version is one. From a pre-release to its own release it is the kind of that release, and from one of a major version to any
- * release SEMVER_MAJOR. SEMVER_NO_DIFFERENCE if the versions have the same precedence. */
+/* The kind of the step between two versions, in either direction. It is the kind of the first number that differs, such as SEMVER_MINOR,
+ * or SEMVER_PREMINOR if the higher version is a pre-release. Between two pre-releases of the same numbers it is SEMVER_PRERELEASE. From
+ * a pre-release to its own release, it is the kind of that release. From a pre-release of a major version to any release, it is
+ * SEMVER_MAJOR. SEMVER_NO_DIFFERENCE if the versions have the same precedence. */
 int32_t semver_difference(const char *one, size_t one_len, const char *other, size_t other_len, size_t *place);
 
 /* Whether the bounds of two ranges overlap: NO or YES. There may be no version between them; semver_common is exact. Two tags overlap if
@@ -178,21 +181,21 @@ int32_t semver_version(const char *version, size_t version_len, char *out, size_
  * their versions, and no key begins another, so an index that compares by bytes sorts versions. */
 int32_t semver_key(const char *version, size_t version_len, char *out, size_t out_len, size_t *needed);
 
-/* The three numbers of a version: YES, if it has neither a pre-release nor a build, or NO, if it has one; with both `*needed` is 3, else
- * 0. If `numbers_len` is less than 3, or with any other code, `numbers` stays as it was. */
+/* The three numbers of a version: YES, if it has neither a pre-release nor a build, or NO, if it has either. With YES and with NO
+ * `*needed` is 3, else 0. If `numbers_len` is less than 3, or with any other code, `numbers` stays as it was. */
 int32_t semver_version_numbers(const char *version, size_t version_len, uint64_t *numbers, size_t numbers_len, size_t *needed);
 
 /* Whether the string may be a tag, by npm's rules: NO or YES. */
 int32_t semver_may_be_tag(const char *text, size_t text_len);
 
-/* The alternatives of a range in their order, as JSON: YES or TAG. Each has the members "end" and "start", its bounds: null, or an object
- * with "inclusive", whether the version itself lies within, and "version". */
+/* The alternatives of a range in their order, as JSON: YES or TAG. Each has the members "end" and "start", its bounds: null, or an
+ * object with "inclusive", whether the version itself lies within, and "version". */
 int32_t semver_ranges(uint32_t grammar, const char *range, size_t range_len, char *out, size_t out_len, size_t *needed);
 
-/* What a range means, as JSON: YES or TAG. The members are "alternatives", in their order, and "normal", the canonical form. An alternative
- * has "text", without the whitespace around it. If it is invalid, and so left out, it has "error", as of semver_errors. Else it has "end"
- * and "start", as of semver_ranges, "lowest", the lowest version that it matches or null, and "pre-releases", an array of the three
- * numbers whose pre-releases match, or "all". */
+/* What a range means, as JSON: YES or TAG. The members are "alternatives", in their order, and "normal", the canonical form. An
+ * alternative has "text", without the whitespace around it. If it is invalid, and so left out, it has "error", as of semver_errors. Else
+ * it has "end" and "start", as of semver_ranges, "lowest", the lowest version that it matches or null, and "pre-releases", an array of
+ * the three numbers whose pre-releases match, or "all". */
 int32_t semver_explain(uint32_t grammar, const char *range, size_t range_len, uint32_t pre_releases,
                        char *out, size_t out_len, size_t *needed);
 
@@ -202,8 +205,8 @@ int32_t semver_explain(uint32_t grammar, const char *range, size_t range_len, ui
  * alternative. */
 int32_t semver_errors(uint32_t grammar, const char *range, size_t range_len, char *out, size_t out_len, size_t *needed);
 
-/* Where a string stops being a version: YES, and `*place` is the index of the byte at which no version goes on like this. For a version,
- * and for a string that only stops too early, that is its length. */
+/* Where a string stops being a version: YES, and `*place` is the index of the first byte with which no version can begin like this. If
+ * the string is a version, or could become one if it went on, `*place` is its length. */
 int32_t semver_version_error(const char *version, size_t version_len, size_t *place);
 
 /* The parts of a version, as JSON: YES. "major", "minor" and "patch" are strings, and "build" and "pre" are arrays of strings. */
@@ -211,9 +214,8 @@ int32_t semver_version_parts(const char *version, size_t version_len, char *out,
 
 /* ---- packages, from strings: JSON without whitespace between its parts, with the members in the order given here */
 
-/* The parts of a package with a range, such as @scope/name@^1.2: YES. The members are "name", without its scope, "normal", the
- * canonical form of the range, "requirement", the string it was parsed from, and "scope", without its @ or null. The grammar is that
- * of the range. */
+/* The parts of a package with a range, such as @scope/name@^1.2: YES. The members are "name", without its scope, "normal", the canonical
+ * form of the range, "requirement", the string it was parsed from, and "scope", without its @ or null. The grammar is that of the range. */
 int32_t semver_package(uint32_t grammar, const char *text, size_t text_len, char *out, size_t out_len, size_t *needed);
 
 /* Why a package (SEMVER_PACKAGE) or a reference (SEMVER_REFERENCE) is invalid: YES; or NO, if it is valid. The members are "kind",
@@ -224,15 +226,14 @@ int32_t semver_package(uint32_t grammar, const char *text, size_t text_len, char
  * strict grammar, whichever you pass. */
 int32_t semver_why(uint32_t what, uint32_t grammar, const char *text, size_t text_len, char *out, size_t out_len, size_t *needed);
 
-/* The parts of a reference to a package, such as jsr:@scope/name@1/mod.ts: YES. The members are "export", the export of a JSR
- * package and else null, "kind", "jsr" or "npm", "package", as of semver_package, and "path" or null. The grammar of its range is the
- * strict one. */
+/* The parts of a reference to a package, such as jsr:@scope/name@1/mod.ts: YES. The members are "export" (the export of a JSR package,
+ * or null for npm), "kind" ("jsr" or "npm"), "package" (as from semver_package), and "path" (or null). The range has the strict grammar. */
 int32_t semver_reference(const char *text, size_t text_len, char *out, size_t out_len, size_t *needed);
 
-/* What is wrong with a package or a reference, as JSON: YES, with an array as of semver_errors, with indexes of the whole string, if its
- * parts are there. If they aren't, the array has one error: "end" is the string's length, "message" that of semver_package or
- * semver_reference, and "expected" has what is missing at "start": "@", "/", "name", or "jsr:" and "npm:". It is empty for a path that
- * isn't allowed, and for a version in the path. */
+/* What is wrong with a package or a reference, as JSON: YES, with an array. If no part of the string is missing, it is an array as from
+ * semver_errors, with indexes into the whole string. If a part is missing, the array has one error: "end" is the string's length,
+ * "message" that of semver_package or semver_reference, and "expected" has what is missing at "start": "@", "/", "name", or "jsr:" and
+ * "npm:". It is empty for a path that isn't allowed, and for a version in the path. */
 int32_t semver_package_errors(uint32_t grammar, const char *text, size_t text_len, char *out, size_t out_len, size_t *needed);
 
 int32_t semver_reference_errors(const char *text, size_t text_len, char *out, size_t out_len, size_t *needed);
@@ -257,11 +258,11 @@ int32_t semver_export_name(const char *path, size_t path_len, char *out, size_t 
  * `semver_req r = {0};` is an empty handle: zero each one before its first call. Calls that end in _read put a value into a handle, and
  * calls that end in _free free it. Let no other code write a handle, nor copy one that holds a value: the copy would be a second owner.
  *
- * A call that takes a handle with `const` only reads it, and its value where it lies. So you may pass one handle twice, and several threads
- * may ask one handle at once, as long as none reads into it or frees it. That is tested, not proved.
+ * A call that takes a handle with `const` only reads the handle and its value. So you may pass one handle twice, and several threads may
+ * ask one handle at once, as long as no thread puts a value into it or frees it. That is tested, not proved.
  *
- * If a handle is empty, or holds a value of another kind, the code is NO_VALUE. Then a call that writes a string writes the error message,
- * a call that writes a list stores 0 in `*needed`, and all else stays as it was, unless said otherwise. */
+ * If a handle is empty, or holds a value of another kind, the code is NO_VALUE. Then a call that writes a string writes the error
+ * message, a call that writes a list stores 0 in `*needed`, and all else stays as it was, unless said otherwise. */
 typedef struct {
     void *at;
 } semver_req;
@@ -270,7 +271,7 @@ typedef struct {
     void *at;
 } semver_ver;
 
-/* versions, one per line, that are parsed once and asked of by many ranges */
+/* versions, one per line, that you parse once and match with many ranges */
 typedef struct {
     void *at;
 } semver_list;
@@ -360,21 +361,22 @@ int32_t semver_list_lowest(const semver_list *list, const semver_req *range, uin
  * `*needed` is the number of the others. */
 int32_t semver_list_sort(const semver_list *list, size_t *places, size_t places_len, size_t *needed);
 
-/* Makes the scans of a range, and puts them into a handle, as semver_req_read does a range: YES, and `*count` is how many there are; or TAG.
- * The range matches a version exactly if the version's sort key is at or above `low` and below `high` of a scan that is about its kind,
- * releases or pre-releases; the bytes decide. The scans about releases come first. Those of a kind are in ascending order, with a gap between
- * one and the next, and none is empty. For any code but YES `handle` and `*count` stay as they were. */
+/* Makes the scans of a range, and puts them into a handle, as semver_req_read does a range: YES, and `*count` is how many there are; or
+ * TAG. A scan is about one kind of versions: releases or pre-releases. The range matches a version exactly if its sort key is in a scan
+ * of its kind: at or above `low`, and below `high`, compared by bytes. The scans about releases come first. Those of a kind are in
+ * ascending order, with a gap between one and the next, and none is empty. For any code but YES `handle` and `*count` stay as they were. */
 int32_t semver_scans_read(const semver_req *range, uint32_t pre_releases, semver_scans *handle, size_t *count);
 
 /* Frees the scans that a handle holds: as semver_req_free. */
 void semver_scans_free(semver_scans *handle);
 
-/* The scan at this index, counted from 0: NO, if it is about releases, or YES, if it is about pre-releases. Its keys are written to `low` and
- * `high`, as every string is. If there is none at the index, the code is NO_VALUE, and both lengths are 0, as for an empty handle. */
+/* The scan at this index, counted from 0: NO, if it is about releases, or YES, if it is about pre-releases. Its keys are written to
+ * `low` and `high`, as every string is. If there is none at the index, the code is NO_VALUE, and both lengths are 0, as for an empty
+ * handle. */
 int32_t semver_scan(const semver_scans *handle, size_t index, char *low, size_t low_len, size_t *low_needed,
                     char *high, size_t high_len, size_t *high_needed);
 
-/* SEMVER_API of the library: a binding rejects another one when it is loaded. */
+/* SEMVER_API of the library: a binding checks it when it loads the library, and rejects any other number. */
 uint32_t semver_api(void);
 
 #ifdef __cplusplus

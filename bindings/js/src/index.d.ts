@@ -1,10 +1,11 @@
 /**
  * Versions and version ranges of npm and JSR.
  *
- * A version is a string or a {@link Version}, and a range a string or a {@link Range}, of this copy of the package or of another.
+ * A version is a string or a {@link Version}. A range is a string or a {@link Range}. Objects may come from another copy of the package.
  *
- * An argument of another type throws `TypeError` with the parameter's name, an invalid string a {@link RangeSyntaxError} or a
- * {@link VersionSyntaxError}, a range that is a tag a {@link TagError}, and running out of memory a `RangeError`.
+ * If an argument has another type, the call throws a `TypeError` with the parameter's name. If a string is invalid, it throws a
+ * {@link RangeSyntaxError} or a {@link VersionSyntaxError}; if a range is a tag, a {@link TagError}; and if memory runs out, a
+ * `RangeError`.
  *
  * @packageDocumentation
  */
@@ -30,11 +31,14 @@ export interface GrammarOptions {
 
 /** Whether invalid versions of a list are left out. */
 export interface ListOptions {
-  /** Leaves out invalid versions, where they are else a {@link VersionSyntaxError}. False by default. */
+  /** Leaves out invalid versions. By default this is false, and an invalid version throws a {@link VersionSyntaxError}. */
   readonly skipInvalid?: boolean;
 }
 
-/** How a range is parsed, and which pre-releases it matches. A {@link Range} has options of its own, which these may replace but its grammar. */
+/**
+ * How a range is parsed, and which pre-releases it matches. A {@link Range} has its own options. These replace them, except for its
+ * grammar.
+ */
 export interface Options extends GrammarOptions {
   /**
    * Whether every pre-release between the bounds matches. By default one matches by npm's rule: if it's between the bounds, and a bound
@@ -47,9 +51,15 @@ export interface Options extends GrammarOptions {
 export interface Diagnosis {
   /** What is wrong. */
   readonly message: string;
-  /** The index at which a range, a version, a package or a reference goes wrong; undefined of other texts, and of one with a lone surrogate. */
+  /**
+   * The index at which a range, a version, a package or a reference goes wrong. It is undefined for other strings, and for a string with
+   * a lone surrogate.
+   */
   readonly start?: number;
-  /** The index at which the string ends, or the alternative of its range with the whitespace behind it; undefined where `start` is. */
+  /**
+   * The index at which the string ends. In a range it is where the invalid alternative ends, with the whitespace after it. It is
+   * undefined if `start` is.
+   */
   readonly end?: number;
   /** What could be at `start`: `digit`, `letter`, `whitespace`, `end`, `name`, or a string such as `.`. Empty for a version. */
   readonly expected: readonly string[];
@@ -123,8 +133,8 @@ export interface Scan {
 }
 
 /**
- * A range, or a tag, that is parsed once. The library holds it until `free()`, or the end of the block of a `using` declaration, or until
- * the object is collected.
+ * A range, or a tag, that is parsed once. The library holds it until `free()`, or the end of the block of a `using` declaration, or
+ * until the object is collected.
  */
 export class Range {
   /**
@@ -148,8 +158,8 @@ export class Range {
   /** Whether both ranges have the same bounds, or are the same tag, whatever their texts. */
   equals(other: string | Range): boolean;
   /**
-   * What the range matches, as scans of an index on {@link Version.sortKey}: a version matches exactly if its key is in a scan of its kind.
-   * The scans of releases come first. Those of a kind are in ascending order, with a gap between one and the next.
+   * What the range matches, as scans of an index on {@link Version.sortKey}: a version matches exactly if its key is in a scan of its
+   * kind. The scans of releases come first. Those of a kind are in ascending order, with a gap between one and the next.
    * @throws {@link TagError}
    * @example new Range('^1.2').scans() // [{ isPre: false, low: 'A1A2A0~', high: 'A2A0A0~' }]
    */
@@ -164,7 +174,7 @@ export class Range {
   [Symbol.dispose](): void;
 }
 
-/** The versions of a package, parsed once and asked of by many ranges. An invalid one keeps its place and matches nothing. */
+/** The versions of a package, which you parse once and match with many ranges. An invalid one keeps its place and matches nothing. */
 export class VersionList<T extends string | Version = string> {
   /** Parses versions. */
   constructor(versions: readonly T[]);
@@ -217,18 +227,21 @@ export function sort<T extends string | Version>(versions: readonly T[], options
 /** -1, 0 or 1: the order of two versions by precedence, which ignores the build. */
 export function compare(one: string | Version, other: string | Version): -1 | 0 | 1;
 
-/** A kind of release, by which step a version comes next; those with `pre` are a pre-release of the next one of their kind. */
+/** The kind of a step to the next version. Those with `pre` before another kind give a pre-release of the next version of that kind. */
 export type ReleaseType = 'major' | 'minor' | 'patch' | 'premajor' | 'preminor' | 'prepatch' | 'prerelease' | 'release';
 
 /** How a pre-release begins. */
 export interface PreReleaseStart {
   /** Its identifiers, with `.` between them. None by default. */
   identifier?: string;
-  /** The number behind them; `false` for none. 0 by default. */
+  /** The number after them; `false` for none. 0 by default. */
   base?: 0 | 1 | false;
 }
 
-/** No version follows: a number is too large, a release has no release, or the pre-release would be empty, invalid or the same. */
+/**
+ * There is no next version: a number is too large, you asked for the `release` of a release, or the pre-release would be empty, invalid
+ * or the same as before.
+ */
 export class IncrementError extends Error {
   /** The version. */
   version: string;
@@ -236,20 +249,22 @@ export class IncrementError extends Error {
 
 /**
  * The next version of a kind, without a build. The next release of a pre-release may be its own: `patch` of `1.2.3-rc.1` is `1.2.3`.
- * A pre-release is raised in its last number, if it begins with the identifier and goes on with a number, or if none is given.
+ * `prerelease` raises the last number of a pre-release, if the pre-release begins with your identifier and goes on with a number, or if
+ * you give no identifier.
  * @example increment('1.2.3', 'prerelease', { identifier: 'beta' }) // '1.2.4-beta.0'
  * @throws {@link VersionSyntaxError} {@link IncrementError}
  */
 export function increment(version: string | Version, releaseType: ReleaseType, options?: PreReleaseStart): string;
 
 /**
- * The first version in a string, one to three numbers with a dot between neighbours, or undefined. With `rtl` it is the one that ends last.
+ * The first version in a string, one to three numbers with a dot between neighbours, or undefined. With `rtl` it is the one that ends
+ * last.
  * @example coerce('v3.4 replaces 3.3.1') // '3.4.0'
  */
 export function coerce(text: string, options?: { rtl?: boolean }): string | undefined;
 
 /**
- * Of which kind the step between two versions is, in either direction; `null` if they have the same precedence.
+ * The kind of the step between two versions, in either direction; `null` if they have the same precedence.
  * @example difference('1.2.3', '1.3.0-rc.1') // 'preminor'
  * @throws {@link VersionSyntaxError}
  */
@@ -302,7 +317,7 @@ export interface ValidAlternative {
   readonly start: Bound | null;
   /** Where it ends; null where it has no upper bound. */
   readonly end: Bound | null;
-  /** The three numbers of which pre-releases match, such as `1.2.3`; `all` if each between the bounds does. */
+  /** The three numbers whose pre-releases match, such as `1.2.3`; `all` if every pre-release between the bounds matches. */
   readonly preReleases: readonly string[] | 'all';
   /** The lowest version that matches; null where none does. */
   readonly lowest: string | null;
