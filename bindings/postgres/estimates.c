@@ -264,12 +264,20 @@ is_null(const Node *it)
 	return IsA(it, Const) && ((const Const *) it)->constisnull;
 }
 
-/* Whether it is a constant of this type of the extension. */
+/*
+ * Whether it is a constant of this type of the extension, beside a column of
+ * versions.  Up to PostgreSQL 15.15 anyone may give an operator of other types
+ * this estimator, so the types are those in the estimator's own schema.
+ */
 static bool
-is_constant(const Node *it, Oid operator, const char *type)
+is_constant(FunctionCallInfo fcinfo, const VariableStatData *column,
+			const Node *it, const char *type)
 {
+	Oid			estimator = fcinfo->flinfo->fn_oid;
+
 	return IsA(it, Const) &&
-		((const Const *) it)->consttype == sv_type_of(get_opcode(operator), type);
+		((const Const *) it)->consttype == sv_type_of(estimator, type) &&
+		column->vartype == sv_type_of(estimator, "semver");
 }
 
 static struct varlena *
@@ -318,7 +326,7 @@ deno_semver_within_sel(PG_FUNCTION_ARGS)
 	{
 		if (is_null(other))
 			share = 0;
-		else if (is_constant(other, operator, "semver_range") &&
+		else if (is_constant(fcinfo, &column, other, "semver_range") &&
 				 read_statistics(&column, operator, &read))
 		{
 			share = matching(&read, value_of(other));
@@ -425,7 +433,7 @@ bound_sel(FunctionCallInfo fcinfo, bool is_low)
 		PG_RETURN_FLOAT8(share);
 	if (is_null(other))
 		share = 0;
-	else if (is_constant(other, operator, "semver_bound"))
+	else if (is_constant(fcinfo, &column, other, "semver_bound"))
 		share = beside_bound(&column, operator, value_of(other),
 							 is_low == is_left);
 	ReleaseVariableStats(column);

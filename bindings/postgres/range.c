@@ -238,7 +238,7 @@ read_range(Node *context, uint32_t grammar, uint32_t pre_releases,
  * A range that matches nothing is probably a mistake: of `^1.2.3.4 || ^1.2.3.`
  * both alternatives are invalid, and so left out.  Who types one is told so, at
  * most once for each message of the client, so a dump is restored with one for
- * each table.  Parallel workers have the message of their leader, which tells.
+ * each table.  Parallel workers say nothing: the leader tells of what it reads.
  */
 static void
 tell_of_nothing(const struct varlena *range)

@@ -190,6 +190,17 @@ END $$;
 SET client_min_messages = error;
 SELECT * FROM counts('SET enable_seqscan = off');
 SELECT * FROM counts('SET enable_seqscan = on; SET enable_indexscan = off; SET enable_bitmapscan = off; SET enable_indexonlyscan = off');
+-- of operators on other types, which have no versions to read
+CREATE TABLE numbers AS SELECT n % 10 AS small, (n % 10)::bigint AS large FROM generate_series(1, 1000) n;
+ANALYZE numbers;
+CREATE FUNCTION always(int, semver_range) RETURNS boolean LANGUAGE plpgsql IMMUTABLE AS 'BEGIN RETURN true; END';
+CREATE FUNCTION always(bigint, semver_bound) RETURNS boolean LANGUAGE plpgsql IMMUTABLE AS 'BEGIN RETURN true; END';
+CREATE OPERATOR === (LEFTARG = int, RIGHTARG = semver_range, FUNCTION = always, RESTRICT = semver_within_sel);
+CREATE OPERATOR === (LEFTARG = bigint, RIGHTARG = semver_bound, FUNCTION = always, RESTRICT = semver_bound_ltsel);
+CREATE OPERATOR ==> (LEFTARG = bigint, RIGHTARG = semver_bound, FUNCTION = always, RESTRICT = semver_bound_gtsel);
+SELECT count(*) FROM numbers WHERE small === '^1';
+SELECT count(*) FROM numbers WHERE large === semver_range_low('^1') AND large ==> semver_range_high('^1');
+DROP TABLE numbers;
 -- in a schema that isn't searched
 CREATE SCHEMA elsewhere;
 ALTER EXTENSION deno_semver SET SCHEMA elsewhere;
