@@ -124,9 +124,11 @@ fn shape_of(text: &str) -> Shape {
         }
         None => digits,
     };
-    let (whole, fraction) = number.split_once('.').unwrap_or((number, "0"));
-    let is_decimal = (is_digits(whole) || whole.is_empty() && !fraction.is_empty())
-        && (is_digits(fraction) || fraction.is_empty());
+    let is_decimal = match number.split_once('.') {
+        Some((whole, "")) => is_digits(whole),
+        Some((whole, fraction)) => is_digits(fraction) && (whole.is_empty() || is_digits(whole)),
+        None => is_digits(number),
+    };
     let is_based = match text.strip_prefix("0x").or(text.strip_prefix("0o")) {
         Some(rest) => !rest.is_empty() && rest.chars().all(|c| c.is_ascii_hexdigit()),
         None => false,
