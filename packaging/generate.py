@@ -24,10 +24,11 @@ DESCRIPTION = (
     "A version is three numbers, as 1.2.3, and perhaps a pre-release and a build, as 1.2.3-rc.1+linux.",
     "A range says which versions a package accepts, as >=1.2 <2 || 3.x; the grammar of ranges is npm's by default, the normalized one, or the "
     "strict one of package specifiers. A tag, such as latest, is a name that a registry gives a version.",
-    "A pre-release matches by npm's rule: if a bound of the range is a pre-release of its three numbers. With --pre each one between the bounds "
-    "matches.",
+    "By npm's rule a pre-release between the bounds matches only if a bound is itself a pre-release of the same three numbers. With --pre every "
+    "pre-release between the bounds matches.",
     "The canonical form of a range is the shortest usual text that means the same.",
-    "- is standard input: a file, its one line, or many lines where a command takes a list. Behind -- each argument is one, also where it begins with a hyphen.",
+    "- stands for standard input: for a file, for its one line, or for all its lines if the command takes a list. After -- no argument is an option, even "
+    "if it begins with a hyphen.",
 )
 ENVIRONMENT = (
     ("NO_COLOR", "If it is set and not empty, nothing is printed in colour, unless --color=always is given."),
@@ -128,7 +129,7 @@ def manual(description, commands):
     lines = [".TH RANGES 1", ".SH NAME", f"ranges \\- {roff(description)}", ".SH SYNOPSIS", ".B ranges", "\\fICOMMAND\\fR [\\fIARGUMENT\\fR]..."]
     lines += [".SH DESCRIPTION", *("\n.PP\n".join(map(roff, DESCRIPTION))).split("\n"), ".SH COMMANDS"]
     for each in commands:
-        alias = f" Or ranges {', '.join(each.aliases)}." if each.aliases else ""
+        alias = f" Its other name is ranges {', '.join(each.aliases)}." if each.aliases else ""
         lines += [f".SS {bold('ranges ' + each.usage.replace('[OPTIONS] ', ''))}", roff(f"{each.help}.{alias}")]
         for term, text in each.arguments:
             name = re.search("[A-Z]+", term).group()
@@ -182,7 +183,7 @@ def bash(commands):
         '        mapfile -t COMPREPLY < <(compgen -f -- "$word") ;;',
         "    esac",
         "}",
-        "complete -F _ranges ranges",
+        "complete -o default -F _ranges ranges",
         "",
     ])
 

@@ -42,4 +42,4 @@ _ranges() {
         mapfile -t COMPREPLY < <(compgen -f -- "$word") ;;
     esac
 }
-complete -F _ranges ranges
+complete -o default -F _ranges ranges
