@@ -4,5 +4,6 @@ pub mod Inside
 pub mod Lowest
 pub mod Numbers
 pub mod Orders
+pub mod Runs
 pub mod Whole
 pub mod Written

@@ -5,3 +5,4 @@ pub mod Increment
 pub mod NextVersions
 pub mod Outside
 pub mod ReleaseTypes
+pub mod Runs

@@ -2,7 +2,7 @@
 
 ghost use Rattle.std.specs.Prelude.{◌≡◌, Some, false};
 ghost use Rattle.std.specs.Option.{option_map};
-ghost use Rattle.node_semver.specs.Coerce.{coerced, dotted_number, ending_last, first_run, last_run, leading_number, leading_run, next_number};
+ghost use Rattle.node_semver.specs.Coerce.{coerced, dotted_number, ending_last, first_run, last_run, leading_number, leading_run, next_number, run_after};
 
 use semver_base::version::{Version, release};
 use std::alloc::Global;
@@ -64,13 +64,23 @@ fn leading_run(alloc: Global, text: &[u8]) -> Option<Run>
     })
 }
 
+// The run that the text begins with, unless a digit comes before it.
+fn run_after(alloc: Global, after_digit: bool, text: &[u8]) -> Option<Run>
+    ensures { result ≡ run_after after_digit text.now }
+{
+    if after_digit {
+        return None;
+    }
+    leading_run(alloc, text)
+}
+
 // The first run.
 fn first_run(alloc: Global, text: &[u8]) -> Option<Run>
     ensures { result ≡ first_run false text.now }
 {
     let mut after_digit = false;
     for (place, byte) in text.iter().enumerate() {
-        if !after_digit && let Some(run) = leading_run(alloc, &text[place..]) {
+        if let Some(run) = run_after(alloc, after_digit, &text[place..]) {
             return Some(run);
         }
         after_digit = byte.is_ascii_digit();
@@ -95,7 +105,7 @@ fn last_run(alloc: Global, text: &[u8]) -> Option<Run>
     let mut last = None;
     let mut after_digit = false;
     for (place, byte) in text.iter().enumerate() {
-        if !after_digit && let Some(run) = leading_run(alloc, &text[place..]) {
+        if let Some(run) = run_after(alloc, after_digit, &text[place..]) {
             last = ending_last(last, run);
         }
         after_digit = byte.is_ascii_digit();
