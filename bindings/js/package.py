@@ -52,6 +52,7 @@ IMPORT_OF_PAGE = re.compile(r"^import (?:\{[^}]*\} from )?'[^']+';\n", re.M)
 EXPORT_FROM = re.compile(r"^export \{([^}]*)\} from '(\.[^']+)\.js';\n", re.M)
 EXPORT = re.compile(r"^export (?=(?:function|class|const|let) (\w+))", re.M)
 DEFAULT = re.compile(r"^export default ", re.M)
+EXPORTED = re.compile(r"^EXPORT\([\w *]+, (\w+)\)|export_name\(\"(\w+)\"\)", re.M)
 
 
 def names(listed):
@@ -74,11 +75,17 @@ def as_commonjs(source):
     return f"'use strict';\n{source}\nmodule.exports = {{\n{members}}};\n"
 
 
+def exported():
+    """The names of the functions that semver.wasm exports."""
+    return [one or other for source in sorted((HERE / "wasm").glob("*.[ch]")) for one, other in EXPORTED.findall(source.read_text())]
+
+
 def module_script(wasm):
     """A script that is the same for ES modules and CommonJS, so that the package has the module once: neither reads the other's files."""
     module = wasm.read_bytes()
     text = base64.b64encode(lz4.compress(module)).decode()
-    return f"globalThis[Symbol.for('deno-semver.wasm')] = {{\n  size: {len(module)},\n  base64: '{text}',\n}};\n"
+    listed = ", ".join(f"'{name}'" for name in exported())
+    return f"globalThis[Symbol.for('deno-semver.wasm')] = {{\n  size: {len(module)},\n  names: [{listed}],\n  base64: '{text}',\n}};\n"
 
 
 def write_sub_path(folder, name, exports):

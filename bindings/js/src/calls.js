@@ -18,20 +18,22 @@ const SHORT = 48; // up to this length a loop over the characters is faster than
 const ADDRESSES = 2 ** 32;
 const NOT_ENCODABLE = 0xff; // a byte that is in no UTF-8, so that a text with it is rejected
 
+const { base64, size, names } = globalThis[Symbol.for('deno-semver.wasm')];
+
 /** The bytes of the module. A loop takes a fifth of the time of `Uint8Array.from`. */
 function bytesOfModule() {
-  const { base64, size } = globalThis[Symbol.for('deno-semver.wasm')];
   const characters = atob(base64);
   const bytes = new Uint8Array(characters.length);
   for (let i = 0; i < bytes.length; i++) bytes[i] = characters.charCodeAt(i);
   return expand(bytes, size);
 }
 
-const compiled = new WebAssembly.Module(bytesOfModule());
-let instance = new WebAssembly.Instance(compiled).exports;
+// The first call compiles the module and makes the instance, as a call does after one that didn't return. So an import is quick.
+let compiled;
+let instance;
 let replaced = 0;
-let isCalling = false;
-let memory = new Uint8Array(instance.memory.buffer);
+let isCalling = true;
+let memory;
 let input = 0;
 let room = 0;
 
@@ -40,7 +42,7 @@ const links = [];
 
 /** An export that stays the same function when the instance is replaced, and marks that it runs. */
 function linked(name) {
-  let call = instance[name];
+  let call;
   links.push(() => {
     call = instance[name];
   });
@@ -53,14 +55,15 @@ function linked(name) {
 }
 
 /** The calls of the module. */
-export const wasm = Object.fromEntries(Object.keys(instance).filter((name) => name !== 'memory').map((name) => [name, linked(name)]));
+export const wasm = Object.fromEntries(names.map((name) => [name, linked(name)]));
 
 /**
- * Replaces the instance if its last call didn't return: where the stack or the time of a `vm` runs out, or the call traps. A call that asks
+ * Makes the instance, or replaces one whose last call didn't return: where the stack or the time of a `vm` runs out, or the call traps. A call that asks
  * a value leaves it as it was, but one that is interrupted may leave the stack pointer moved, or the allocator between two states. What the
  * old instance held is lost. If this is interrupted itself, the next call begins it again.
  */
 function replace() {
+  compiled ??= new WebAssembly.Module(bytesOfModule());
   instance = new WebAssembly.Instance(compiled).exports;
   for (const link of links) link();
   memory = new Uint8Array(instance.memory.buffer);

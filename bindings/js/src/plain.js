@@ -4,7 +4,7 @@ const NUMBER = '(?:0|[1-9]\\d{0,14})';
 const IDENTIFIER = '(?:0|[1-9]\\d*|\\d*[A-Za-z-][A-Za-z\\d-]*)';
 const PLAIN = new RegExp(`^${NUMBER}\\.${NUMBER}\\.${NUMBER}(?:-${IDENTIFIER}(?:\\.${IDENTIFIER})*)?$`);
 
-/** Whether the text is such a version, which the library displays as it stands. */
+/** Whether the text is such a version. The library takes each of them, and displays it as it stands, so it isn't asked. */
 export function isPlain(text) {
   return PLAIN.test(text);
 }

@@ -11,10 +11,7 @@ export class Version {
 
   constructor(version) {
     const source = versionText(version, 'version');
-    const code = wasm.version(write(source));
-    if (code === NO_MEMORY) throw outOfMemory();
-    if (code !== YES) throw invalid(VERSION, 0, source);
-    this.#text = isPlain(source) ? source : text();
+    this.#text = isPlain(source) ? source : displayed(source);
   }
 
   /** The text of the three numbers, and each of them. */
@@ -84,6 +81,14 @@ export class Version {
   [INSPECT]() {
     return `Version <${this.#text}>`;
   }
+}
+
+/** The version as the library displays it. */
+function displayed(version) {
+  const code = wasm.version(write(version));
+  if (code === NO_MEMORY) throw outOfMemory();
+  if (code !== YES) throw invalid(VERSION, 0, version);
+  return text();
 }
 
 /** The identifiers behind the first such character. */

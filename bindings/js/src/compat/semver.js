@@ -24,7 +24,6 @@ export class SemVer {
     this.raw = version;
     if (isUsual(version)) this.#readUsual(version);
     else this.#read(version.trim());
-    expectParsed(this.version);
   }
 
   /** Reads a usual version, whose digits alone are at or above `0`. */
@@ -51,7 +50,7 @@ export class SemVer {
     this.patch = exactly(parts[3], 'patch');
     this.prerelease = parts[4] ? parts[4].split('.').map(identifierOf) : [];
     this.build = parts[5] ? parts[5].split('.') : [];
-    this.format();
+    expectParsed(this.format());
   }
 
   format() {
@@ -123,7 +122,7 @@ function identifierOf(identifier) {
 }
 
 /** Throws where the library doesn't parse the version. */
-export function expectParsed(version) {
+function expectParsed(version) {
   const code = wasm.version(write(version));
   if (code === YES) return;
   throw code === NO_MEMORY ? outOfMemory() : new TypeError(`Invalid Version: ${version}`);

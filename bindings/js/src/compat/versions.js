@@ -5,7 +5,7 @@ import { kindOf } from '../errors.js';
 import { linesOf } from '../lists.js';
 import { askDifference } from '../steps.js';
 import { isUsual } from './grammar.js';
-import { SemVer, expectParsed, orderOf } from './semver.js';
+import { SemVer, orderOf } from './semver.js';
 
 export function parse(version, options, throwErrors = false) {
   if (version instanceof SemVer) return version;
@@ -18,10 +18,7 @@ export function parse(version, options, throwErrors = false) {
 }
 
 export function valid(version, options) {
-  if (isUsual(version)) {
-    expectParsed(version);
-    return version;
-  }
+  if (isUsual(version)) return version;
   return parse(version, options)?.version ?? null;
 }
 
