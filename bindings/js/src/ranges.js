@@ -68,20 +68,18 @@ export class Range {
     this.#held = hold(this, settings.grammar, this.#text);
   }
 
-  /** Calls with the address of a range, a text or a `Range`, and its options. A text, or with other options, is held until then. */
-  static #ask(range, name, options, call) {
-    if (range instanceof Range && options === undefined) return call(range.#held.address, range.#options, range.#text);
-    const { texts: [text], name: grammar, pre } = questionOf({ [name]: range }, options);
-    const made = new Range(text, { grammar, preReleases: pre === 1 });
-    try {
-      return call(made.#held.address, made.#options, text);
-    } finally {
-      made.free();
-    }
-  }
-
   static {
-    askRange = Range.#ask;
+    /** Calls with the address of a range, a text or a `Range`, and its options. A text, or with other options, is held until then. */
+    askRange = (range, name, options, call) => {
+      if (range instanceof Range && options === undefined) return call(range.#held.address, range.#options, range.#text);
+      const { texts: [text], name: grammar, pre } = questionOf({ [name]: range }, options);
+      const made = new Range(text, { grammar, preReleases: pre === 1 });
+      try {
+        return call(made.#held.address, made.#options, text);
+      } finally {
+        made.free();
+      }
+    };
   }
 
   get text() {
@@ -107,7 +105,7 @@ export class Range {
   /** Asks of this range and another one, a text of the same grammar or a `Range`. */
   #askBoth(call, other) {
     const options = typeof other === 'string' ? this.#given : undefined;
-    return Range.#ask(other, 'other', options, (address) => call(this.#held.address, address) === YES);
+    return askRange(other, 'other', options, (address) => call(this.#held.address, address) === YES);
   }
 
   intersects(other) {

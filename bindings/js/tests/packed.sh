@@ -14,6 +14,17 @@ cd "$folder"
 npm install --offline --silent --no-audit --no-fund ./deno-semver-*.tgz
 node module.mjs
 node common.cjs
+if command -v esbuild >/dev/null; then
+    for format in esm cjs; do
+        esbuild module.mjs --bundle --minify --platform=node --format=$format --outfile=bundled.$format.js --log-level=warning
+    done
+    mv bundled.esm.js bundled.mjs
+    mv bundled.cjs.js bundled.cjs
+    node bundled.mjs
+    node bundled.cjs
+else
+    echo "JavaScript: no esbuild, so the package isn't bundled"
+fi
 cp "$here/../../../examples/resolve.mjs" .
 node resolve.mjs | diff "$here/../../../examples/resolved.txt" -
 if command -v tsc >/dev/null; then
