@@ -40,7 +40,8 @@ unpack() {
     folder=${folder%/}
 }
 
-# A build of it in another folder installs the same files, as packages of distributions are built, and is built anew over a newer library.
+# A build of it in another folder installs the same files, as packages of distributions are built, removes each of them, and is built anew over
+# a newer library.
 installs_from_elsewhere() {
     mkdir "$root/elsewhere"
     set -- make -s -C "$root/elsewhere" -f "$folder/Makefile" DENO_SEMVER="$library" DESTDIR="$root/elsewhere/installed"
@@ -51,6 +52,9 @@ installs_from_elsewhere() {
         cmp "$file" "$root/elsewhere/installed$(pg_config --sharedir)/extension/${file##*/}"
     done
     cmp "$folder/doc/deno_semver.md" "$root/elsewhere/installed$(pg_config --docdir)/extension/deno_semver.md"
+    run "$@" uninstall
+    left=$(find "$root/elsewhere/installed" ! -type d)
+    [ -z "$left" ] || fail "make uninstall leaves $left"
 }
 
 # A database in SQL_ASCII has any bytes.
