@@ -163,6 +163,8 @@ read_statistics(VariableStatData *column, Oid operator, statistics *it)
 					 InvalidOid, ATTSTATSSLOT_VALUES | ATTSTATSSLOT_NUMBERS);
 	get_attstatsslot(&it->histogram, column->statsTuple,
 					 STATISTIC_KIND_HISTOGRAM, InvalidOid, ATTSTATSSLOT_VALUES);
+	/* Statistics that are imported may have fewer numbers than values. */
+	it->common.nvalues = Min(it->common.nvalues, it->common.nnumbers);
 	for (int n = 0; n < it->common.nnumbers; n++)
 		common += it->common.numbers[n];
 	it->others = 1 - it->nulls - common;

@@ -170,6 +170,20 @@ RESET ROLE;
 DROP FUNCTION tells, expected;
 DROP TABLE secret, questions;
 DROP ROLE regress_tenant;
+-- of statistics with fewer numbers than values, as an import may leave them, only the values that have a number count
+CREATE TABLE imported(version semver) WITH (autovacuum_enabled = off);
+INSERT INTO imported SELECT ('1.' || n % 100 || '.0')::semver FROM generate_series(1, 10000) n;
+ANALYZE imported;
+UPDATE pg_statistic SET stanumbers1 = '{0.25}' WHERE starelid = 'imported'::regclass AND stakind1 = 1;
+CREATE FUNCTION expected(condition text) RETURNS float8 LANGUAGE plpgsql AS $$
+DECLARE plan json;
+BEGIN
+  EXECUTE 'EXPLAIN (FORMAT JSON) SELECT * FROM imported WHERE ' || condition INTO plan;
+  RETURN plan->0->'Plan'->>'Plan Rows';
+END $$;
+SELECT condition, expected(condition) FROM unnest(ARRAY[$$version <@ '1'$$, $$version >= 'A1A0A0~'::semver_bound$$]) condition;
+DROP FUNCTION expected;
+DROP TABLE imported;
 -- by each way the same rows
 CREATE TABLE ranges(r semver_range);
 INSERT INTO ranges VALUES ('1.2.3 || ^5.1'), ('^1 || ^3'), ('~1.2.0'), ('*'), ('>=1.2.0-a.1 <1.2.5 || 6.x'), ('>3'), ('<0.0.0'), ('<=2.1.1-a.3');
