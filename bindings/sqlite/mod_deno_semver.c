@@ -68,10 +68,10 @@ typedef struct {
     uint32_t grammar, pre_releases;
 } options;
 
-static int grammar_of(const char *name, uint32_t *grammar) {
+static int grammar_of(text name, uint32_t *grammar) {
     static const char *const NAMES[] = {[SEMVER_NPM] = "npm", [SEMVER_NORMALIZED] = "normalized", [SEMVER_STRICT] = "strict"};
     for (*grammar = 0; *grammar < sizeof NAMES / sizeof *NAMES; ++*grammar)
-        if (name && strcmp(name, NAMES[*grammar]) == 0) return 1;
+        if (name.at && name.len == strlen(NAMES[*grammar]) && memcmp(name.at, NAMES[*grammar], name.len) == 0) return 1;
     return 0;
 }
 
@@ -80,7 +80,7 @@ static int grammar_of(const char *name, uint32_t *grammar) {
 static int read_options(sqlite3_value *pre_releases, sqlite3_value *grammar, options *it) {
     *it = (options){SEMVER_NPM, SEMVER_RESTRICTED};
     if (pre_releases && sqlite3_value_int(pre_releases)) it->pre_releases = SEMVER_ADMITTED;
-    return !grammar || is_null(grammar) || grammar_of((const char *)sqlite3_value_text(grammar), &it->grammar);
+    return !grammar || is_null(grammar) || grammar_of(text_of(grammar), &it->grammar);
 }
 
 #define NO_GRAMMAR "no such grammar: use 'npm', 'normalized' or 'strict'"
