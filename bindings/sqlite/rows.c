@@ -1,7 +1,8 @@
 /* Asks SQLite each statement of a file (rows.txt says how it is written) with an extension: rows EXTENSION FILE
  *
  * Then it asks with every allocation of SQLite failing in turn, and with every allocation of the library, which stands over the heap of
- * bindings/heap.c. The answer must be the same, or that memory ran out. The status is 1 where an answer differs, or a block is lost. */
+ * bindings/heap.c. The answer must be the same, or that memory ran out, and SQLite must find no fault in the indexes. The status is 1 where an
+ * answer differs, an index has a fault, or a block is lost. */
 #include <dlfcn.h>
 #include <sqlite3.h>
 #include <stdio.h>
@@ -95,6 +96,13 @@ static int is_out_of_memory(int code, const char *got, const char *wanted) {
     return code == SQLITE_NOMEM || code == SQLITE_INTERRUPT || (strstr(wanted, "! ") && strstr(got, "! SQL logic error\n"));
 }
 
+/* Whether each index has the rows of its table, in its order. */
+static int is_intact(sqlite3 *db) {
+    static char out[ROOM];
+    out[0] = 0;
+    return answer(db, "pragma integrity_check", out) == SQLITE_DONE && strcmp(out, "= ok\n") == 0;
+}
+
 static int is_asked(const char *sql, const char *wanted, long (*limit)(long), long allocations) {
     static char out[ROOM];
     sqlite3 *db = open();
@@ -102,6 +110,10 @@ static int is_asked(const char *sql, const char *wanted, long (*limit)(long), lo
     limit(allocations);
     int code = answer(db, sql, out);
     long failures_now = limit(-1);
+    if (!is_intact(db)) {
+        printf("%s\nwith %ld allocations, leaves an index with a fault\n", sql, allocations);
+        failed = 1;
+    }
     sqlite3_close(db);
     if (strcmp(out, wanted) != 0 && !(failures_now && is_out_of_memory(code, out, wanted))) {
         printf("%s\nwith %ld allocations, is answered\n%sand not\n%s", sql, allocations, out, wanted);
