@@ -319,7 +319,8 @@ static void compare(sqlite3_context *context, int count, sqlite3_value **values)
 }
 
 /* ---- the collation SEMVER: versions by precedence, and behind them other texts by their bytes. A collation has no way to fail, so where memory
- * runs out, it interrupts the statement. */
+ * runs out, it interrupts the statement. SQLite looks for that in loops alone, so a statement that writes one row may end before, and leave an
+ * index out of order. */
 static int collate(void *db, int one_len, const void *one_at, int other_len, const void *other_at) {
     text one = {one_at, (size_t)one_len}, other = {other_at, (size_t)other_len};
     size_t place, needed;
