@@ -167,6 +167,14 @@ SELECT hidden, absent, tells(hidden, absent) FROM questions;
 SET ROLE regress_tenant;
 SELECT hidden, absent, tells(hidden, absent) FROM questions;
 RESET ROLE;
+-- and scans no index on the version
+CREATE INDEX ON secret(version);
+SET enable_seqscan = on;
+EXPLAIN (COSTS OFF) SELECT * FROM secret WHERE version <@ '4.13';
+SET ROLE regress_tenant;
+EXPLAIN (COSTS OFF) SELECT * FROM secret WHERE version <@ '4.13';
+RESET ROLE;
+SET enable_seqscan = off;
 DROP FUNCTION tells, expected;
 DROP TABLE secret, questions;
 DROP ROLE regress_tenant;
