@@ -1,4 +1,4 @@
-//! Whether a text is JSON, however deep its arrays and objects are.
+//! Whether a text is JSON, however deep its arrays and objects are, and what is wrong with it.
 
 use std::alloc::{AllocError, Global};
 
@@ -180,6 +180,51 @@ impl Taken {
         Ok(true)
     }
 
+    // Why JSON doesn't go on with this character between two tokens.
+    fn unexpected(&self, c: char) -> &'static str {
+        let is_array = self.open.last().copied() == Some(Open::Array);
+        match (self.next, c) {
+            (_, '/') => "not valid JSON: JSON has no comments",
+            (Next::Key | Next::KeyOrEnd | Next::Value | Next::ItemOrEnd, '\'') => {
+                "not valid JSON: a string has double quotes"
+            }
+            (Next::Key, '}') => "not valid JSON: a comma stands before `}`",
+            (Next::Value, ']') if is_array => "not valid JSON: a comma stands before `]`",
+            (Next::Key | Next::KeyOrEnd, _) => "not valid JSON: expected a key in double quotes",
+            (Next::Colon, _) => "not valid JSON: expected `:` behind the key",
+            (Next::Value | Next::ItemOrEnd, _) => {
+                "not valid JSON: expected a value; a string has double quotes"
+            }
+            (Next::CommaOrEnd, _) if is_array => "not valid JSON: expected `,` or `]`",
+            (Next::CommaOrEnd, _) => "not valid JSON: expected `,` or `}`",
+            (Next::Nothing, _) => "not valid JSON: expected the end of the file",
+        }
+    }
+
+    // Why JSON doesn't go on with this character.
+    fn reason(&self, c: char) -> &'static str {
+        match self.token {
+            Token::Between => self.unexpected(c),
+            Token::Text if c == '\n' => "not valid JSON: the string isn't closed on its line",
+            Token::Text => "not valid JSON: a control character in a string",
+            Token::Escape | Token::Digits(_) => "not valid JSON: an invalid escape in a string",
+            Token::Number(_) => "not valid JSON: an invalid number",
+            Token::Word(_) => "not valid JSON: expected `true`, `false` or `null`",
+        }
+    }
+
+    // What is missing at the end.
+    fn missing(&self) -> &'static str {
+        match (self.token, self.open.last().copied()) {
+            (Token::Text | Token::Escape | Token::Digits(_), _) => {
+                "not valid JSON: the string isn't closed"
+            }
+            (_, Some(Open::Object)) => "not valid JSON: a `}` is missing at the end",
+            (_, Some(Open::Array)) => "not valid JSON: a `]` is missing at the end",
+            (_, None) => "not valid JSON: the value is missing, or cut off",
+        }
+    }
+
     // Whether nothing is missing.
     fn is_complete(&self) -> bool {
         match self.token {
@@ -190,24 +235,33 @@ impl Taken {
     }
 }
 
-/// The index of the character with which a text isn't JSON any more, or that of the last if the text is only a beginning of
-/// JSON; none if it is JSON.
-pub fn error_place(alloc: Global, text: &str) -> Result<Option<usize>, AllocError> {
+/// Where a text isn't JSON any more, and why.
+#[derive(Clone, Copy)]
+pub struct Mistake {
+    /// The index of the first wrong character, or that of the last if the text is only a beginning of JSON.
+    pub index: usize,
+    pub message: &'static str,
+}
+
+/// The first mistake in a text; none if it is JSON.
+pub fn mistake_in(alloc: Global, text: &str) -> Result<Option<Mistake>, AllocError> {
     let mut taken = Taken {
         open: Vec::new(alloc),
         next: Next::Value,
         token: Token::Between,
     };
-    let mut last = 0usize;
-    for (index, c) in text.char_indices() {
+    let mut index = 0usize;
+    for (at, c) in text.char_indices() {
+        index = at;
         if !taken.step(c)? {
-            return Ok(Some(index));
+            let message = taken.reason(c);
+            return Ok(Some(Mistake { index, message }));
         }
-        last = index;
     }
     Ok(if taken.is_complete() {
         None
     } else {
-        Some(last)
+        let message = taken.missing();
+        Some(Mistake { index, message })
     })
 }

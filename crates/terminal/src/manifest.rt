@@ -3,7 +3,7 @@
 use crate::collecting::{Collector, Format, Shape};
 use crate::commented::without_comments;
 use crate::entry::Entry;
-use crate::json::error_place;
+use crate::json::mistake_in;
 use crate::sections::Kind;
 use crate::yaml::{entries_of_yaml, without_comment};
 use serde_json::Value;
@@ -105,8 +105,8 @@ impl Scanner<'_> {
 
 // The entries of JSON, or the one mistake that it is.
 fn of_text(alloc: Global, file: &str, format: Format) -> Result<Vec<Entry>, AllocError> {
-    let mistake = match error_place(alloc, file)? {
-        Some(place) => Entry::of_file(alloc, place, "not valid JSON"),
+    let mistake = match mistake_in(alloc, file)? {
+        Some(mistake) => Entry::of_file(alloc, mistake.index, mistake.message),
         None if file.trim_start().starts_with('[') => {
             Entry::of_file(alloc, 0, "a list: expected an object")
         }
@@ -214,7 +214,7 @@ pub fn entries(alloc: Global, path: &str, file: &str) -> Result<Vec<Entry>, Allo
         return Ok(vec![in alloc; Entry::of_file(alloc, 0, LOCKFILE)]?);
     }
     let is_json = front.starts_with(['{', '/'].as_slice()) || name.ends_with(".json");
-    let is_list = front.starts_with('[') && error_place(alloc, file)?.is_none();
+    let is_list = front.starts_with('[') && mistake_in(alloc, file)?.is_none();
     if !is_json && !is_list {
         return match other(name, file) {
             Some(message) => Ok(vec![in alloc; Entry::of_file(alloc, 0, message)]?),
