@@ -312,7 +312,7 @@ const VERSIONS: Argument = Argument {
 const FILES: Argument = Argument {
     name: "FILE",
     form: Form::Texts(0),
-    help: "A package.json, deno.json or import map, a range per line, a folder, or - for standard input; without any, this folder and its workspaces",
+    help: "A package.json, deno.json, import map or pnpm-workspace.yaml, a range per line, a folder, or - for standard input; without any, this folder and its workspaces",
 };
 
 const FOLDER: Argument = Argument {
@@ -384,7 +384,7 @@ const ALIASES: [(&str, &str); 2] = [("filter", "matches"), ("canonical", "normal
 const ON_FILES: &[Entry] = &[
     Entry {
         name: "check",
-        about: "Check the ranges of package.json, deno.json and import maps",
+        about: "Check the ranges of package.json, deno.json, import maps and pnpm-workspace.yaml",
         arguments: &[
             JSON, GITHUB, SARIF, CANONICAL, FIX, DRY_RUN, EXCLUDE, LIST, RULE, STRICT, QUIET, FILES,
         ],
