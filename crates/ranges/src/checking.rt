@@ -497,7 +497,8 @@ fn check_entry<'e, O: Write, E: Write>(
                 Finding::by(Rule::UnmatchedWorkspace, message),
             )
         }
-        Kind::Workspace | Kind::ImportMap | Kind::Level => Ok(()),
+        Kind::Workspace | Kind::ImportMap | Kind::Level | Kind::Setting | Kind::Name => Ok(()),
+        Kind::Override(_) | Kind::Workspaces | Kind::Packages => Ok(()),
     }
 }
 

@@ -27,8 +27,13 @@ pub enum Format {
     Yaml,
 }
 
+// Whether patterns of workspaces may stand at a place, or one.
+fn has_patterns(place: Place) -> bool {
+    place.has_array || matches!(place.text, Some((Kind::Workspace, _)))
+}
+
 // What is said of a value, where something else belongs. npm takes `null` for no engines.
-fn misplaced(shape: Shape, place: Place, is_engines: bool) -> Option<Kind> {
+fn misplaced(shape: Shape, place: Place, is_engines: bool, is_of_workspaces: bool) -> Option<Kind> {
     let message = match place.text {
         Some((Kind::Engine, _)) if shape == Shape::Null => return None,
         Some((Kind::Engine, _)) => {
@@ -45,6 +50,9 @@ fn misplaced(shape: Shape, place: Place, is_engines: bool) -> Option<Kind> {
         None if is_engines && shape == Shape::Null => return None,
         None if is_engines => {
             return Some(Kind::Odd("not an object: package managers pass over it"));
+        }
+        None if is_of_workspaces && place.has_array => {
+            "npm refuses it: workspaces config expects an Array"
         }
         None if place.has_object => "expected an object",
         None if place.has_array => "expected a list",
@@ -112,6 +120,63 @@ impl Collector {
         place.text.is_some() || place.has_object || place.has_array
     }
 
+    // The first key on the way.
+    fn first_key(&self) -> &str {
+        match self.path.first() {
+            Some(first) => first.as_str(),
+            None => "",
+        }
+    }
+
+    // Whether the next value is the workspaces of package.json.
+    fn is_workspaces(&self) -> bool {
+        self.format == Format::Package
+            && self.path.is_empty()
+            && self.key.as_deref() == Some("workspaces")
+    }
+
+    // What stands between the names in a key of overrides, if the next key is one, and the section that it's in.
+    fn separator(&self) -> Option<(&'static str, &'static str)> {
+        let is_of_pnpm = self
+            .path
+            .get(1)
+            .is_some_and(|key| key.as_str() == "overrides");
+        match (self.first_key(), self.path.len()) {
+            ("overrides", 1) if self.format == Format::Yaml => Some((">", "overrides")),
+            ("overrides", _) if self.format != Format::Yaml => Some(("", "overrides")),
+            ("pnpm", 2) if is_of_pnpm => Some((">", "pnpm")),
+            ("resolutions", 1) => Some(("/", "resolutions")),
+            (_, _) => None,
+        }
+    }
+
+    // Adds an entry of the next key, if it's one of overrides. npm's key `.` stands for the package of the object.
+    fn add_override(&mut self, key: &str, start: usize, end: usize) -> Result<(), AllocError> {
+        let Some((separator, section)) = self.separator() else {
+            return Ok(());
+        };
+        if key == "." && separator.is_empty() {
+            return Ok(());
+        }
+        let text = String::from_str(self.alloc, key)?;
+        self.add(text, start, end, Kind::Override(separator), section)
+    }
+
+    // Adds an entry of the last key, if it says something itself.
+    fn add_key(&mut self, start: usize) -> Result<(), AllocError> {
+        if self.path.len() != 1 {
+            return Ok(());
+        }
+        let is_packages = self.key.as_deref() == Some("packages");
+        let is_rules = self.key.as_deref() == Some("rules");
+        let kind = match self.first_key() {
+            "workspaces" if is_packages => Kind::Packages,
+            "ranges" if !is_rules => Kind::Setting,
+            _ => return Ok(()),
+        };
+        self.add_kind(start, kind, "")
+    }
+
     // Whether a value of another shape is a mistake where the next value is.
     fn is_strict(&self, place: Place, shape: Shape) -> bool {
         let key = self.key.as_deref().unwrap_or("");
@@ -121,6 +186,8 @@ impl Collector {
         };
         let is_import_map = matches!(first, "imports" | "scopes");
         match self.format {
+            // Only npm's own file has npm's workspaces.
+            Format::Json | Format::Yaml if first == "workspaces" && has_patterns(place) => false,
             // pnpm passes over a section without a value.
             Format::Yaml => shape != Shape::Null || !self.path.is_empty(),
             Format::Package if is_import_map => false,
@@ -153,6 +220,7 @@ impl Collector {
             section,
             object,
             name,
+            depth: self.path.len(),
             text,
             start,
             end,
@@ -184,6 +252,10 @@ impl Collector {
                 self.add_kind(index, Kind::Meta, section)?;
                 true
             }
+            (Shape::Object, _) if self.is_workspaces() => {
+                self.add_kind(index, Kind::Workspaces, "workspaces")?;
+                true
+            }
             (Shape::Object, _) => place.has_object,
             (Shape::Array, _) => place.has_array,
             (_, _) => false,
@@ -192,7 +264,8 @@ impl Collector {
             return Ok(None);
         }
         let is_engines = self.path.is_empty() && self.key.as_deref() == Some("engines");
-        let kind = match misplaced(shape, place, is_engines) {
+        let is_of_workspaces = self.is_workspaces() || self.first_key() == "workspaces";
+        let kind = match misplaced(shape, place, is_engines, is_of_workspaces) {
             Some(_)
                 if shape == Shape::Other && self.format == Format::Yaml && place.text.is_some() => {
                 Kind::Mistake("not a text to YAML: write it in quotes")
@@ -236,9 +309,10 @@ impl Collector {
         self.key = None;
     }
 
-    /// Takes a key, which starts at this index.
-    pub fn take_key(&mut self, key: String, start: usize) -> Result<(), AllocError> {
+    /// Takes a key, which stands between these indexes.
+    pub fn take_key(&mut self, key: String, start: usize, end: usize) -> Result<(), AllocError> {
         self.is_lockfile |= self.path.is_empty() && key.as_str() == "lockfileVersion";
+        self.add_override(key.as_str(), start, end)?;
         let again = String::from_str(self.alloc, key.as_str())?;
         self.key = Some(key);
         let is_new = match self.open.last_mut() {
@@ -250,6 +324,7 @@ impl Collector {
             ) => keys.insert(again)?,
             _ => true,
         };
+        self.add_key(start)?;
         match self.format {
             _ if is_new => Ok(()),
             Format::Yaml => {

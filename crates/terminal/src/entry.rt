@@ -14,6 +14,8 @@ pub struct Entry {
     pub object: String,
     /// Its key: what depends on it. Empty in plain lines.
     pub name: String,
+    /// How many objects and arrays it is in, without the one that the file is.
+    pub depth: usize,
     pub text: String,
     /// The index of its first byte in the file.
     pub start: usize,
@@ -29,6 +31,7 @@ impl Entry {
             section: "",
             object: String::new(alloc),
             name: String::new(alloc),
+            depth: 0,
             text: String::new(alloc),
             start,
             end: start,

@@ -92,7 +92,7 @@ impl Scanner<'_> {
         let raw = self.file.get(start..index).unwrap_or("");
         if !self.is_value {
             let key = unescaped(self.alloc, raw)?;
-            return self.collector.take_key(key, start);
+            return self.collector.take_key(key, start, index);
         }
         self.is_value = false;
         let Some((kind, section)) = self.value.take() else {
@@ -191,6 +191,7 @@ fn of_lines(alloc: Global, file: &str) -> Result<Vec<Entry>, AllocError> {
                 section: "",
                 object: String::new(alloc),
                 name: String::new(alloc),
+                depth: 0,
                 text: String::from_str(alloc, text)?,
                 start,
                 end: start.saturating_add(text.len()),

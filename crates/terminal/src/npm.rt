@@ -2,6 +2,7 @@
 //! tested alone.
 
 use crate::hints::{behind_protocol, is_protocol};
+use std::alloc::{AllocError, Global};
 
 /// Where a dependency comes from.
 #[derive(Clone, Copy)]
@@ -114,6 +115,30 @@ pub fn renamed(text: &str) -> Option<&str> {
     let other = behind_protocol(text, "npm:").or(behind_protocol(text, "jsr:"));
     let alias = other.or(behind_protocol(text, "workspace:"))?;
     alias.get(..name_end(alias)?)
+}
+
+/// The name of a package, and the range behind its `@`, which is empty if there is none.
+pub fn name_and_range(text: &str) -> (&str, &str) {
+    let Some(end) = name_end(text) else {
+        return (text, "");
+    };
+    let (name, range) = text.split_at_checked(end).unwrap_or((text, ""));
+    (name, range.strip_prefix('@').unwrap_or(range))
+}
+
+/// The indexes at which the names with their ranges end in a key of overrides, between which this text stands. pnpm's `a@>1` has none at the
+/// `>`.
+pub fn ends_in_key(alloc: Global, key: &str, separator: &str) -> Result<Vec<usize>, AllocError> {
+    let mut ends = Vec::new(alloc);
+    let mut before = '@';
+    for (index, c) in key.char_indices() {
+        if separator.starts_with(c) && !matches!(before, ' ' | '|' | '@') {
+            ends.push(index)?;
+        }
+        before = c;
+    }
+    ends.push(key.len())?;
+    Ok(ends)
 }
 
 // What npm makes of what follows `npm:`, a name and a range or a tag.
@@ -444,6 +469,20 @@ pub fn number_behind_wildcard(text: &str) -> Option<(&str, &str)> {
                 break;
             }
             start = end.saturating_add(1);
+        }
+    }
+    None
+}
+
+/// A number of a pre-release with a zero in front, which node-semver refuses.
+pub fn number_behind_zero(text: &str) -> Option<&str> {
+    for word in text.split([' ', '\t', '|', ','].as_slice()) {
+        let version = word.split('+').next().unwrap_or("");
+        let (_, pre) = version.split_once('-').unwrap_or(("", ""));
+        for part in pre.split('.') {
+            if part.len() > 1 && part.starts_with('0') && is_number(part) {
+                return Some(part);
+            }
         }
     }
     None

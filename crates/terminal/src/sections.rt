@@ -23,6 +23,16 @@ pub enum Kind {
     ImportMap,
     /// The level of a rule.
     Level,
+    /// A key beside the levels of rules, which means nothing.
+    Setting,
+    /// The name of the package.
+    Name,
+    /// A key of overrides: the name of a package, and perhaps a range behind an `@`. This text stands before another name, if one may follow.
+    Override(&'static str),
+    /// The object that workspaces may be.
+    Workspaces,
+    /// The key of the patterns in that object.
+    Packages,
     /// A key that stands in its object before.
     Repeated,
     /// What is accepted, and no range, as the message says.
@@ -39,7 +49,7 @@ struct Section(&'static [&'static str], Kind, usize);
 // Anything else is passed over.
 const NEVER: usize = 100;
 
-const SECTIONS: [Section; 29] = [
+const SECTIONS: [Section; 30] = [
     Section(&["dependencies", "*"], Kind::Dependency, 1),
     Section(&["devDependencies", "*"], Kind::Dependency, 1),
     Section(&["peerDependencies", "*"], Kind::Dependency, 1),
@@ -57,11 +67,12 @@ const SECTIONS: [Section; 29] = [
     Section(&["devEngines", "*", "[]", "version"], Kind::Range, 4),
     Section(&["packageManager"], Kind::Manager, 1),
     Section(&["version"], Kind::Version, 1),
+    Section(&["name"], Kind::Name, NEVER),
     Section(&["imports", "*"], Kind::Specifier, 1),
     Section(&["scopes", "*", "*"], Kind::Specifier, 1),
     Section(&["importMap"], Kind::ImportMap, NEVER),
-    Section(&["workspaces", "[]"], Kind::Workspace, NEVER),
-    Section(&["workspaces", "packages", "[]"], Kind::Workspace, NEVER),
+    Section(&["workspaces", "[]"], Kind::Workspace, 1),
+    Section(&["workspaces", "packages", "[]"], Kind::Workspace, 2),
     Section(&["workspace", "[]"], Kind::Workspace, NEVER),
     Section(&["workspace", "members", "[]"], Kind::Workspace, NEVER),
     Section(&["workspace", "catalog", "*"], Kind::Dependency, 2),

@@ -71,6 +71,7 @@ enum Next {
 struct Key {
     text: String,
     start: usize,
+    end: usize,
     /// How many bytes of the line stand before what follows its colon.
     taken: usize,
 }
@@ -309,13 +310,14 @@ impl<'t> Reader<'t> {
     // The key that the line begins with here, if it does.
     fn key(&self) -> Result<Option<Key>, Stop> {
         let line = self.line_rest();
-        let (text, start, line, rest) = if line.starts_with(['"', '\''].as_slice()) {
+        let (text, start, end, line, rest) = if line.starts_with(['"', '\''].as_slice()) {
             let Quoted { text, length, .. } = self.quoted_at(self.at)?;
             let rest = line
                 .get(length..)
                 .unwrap_or("")
                 .trim_start_matches(is_space);
-            (text, self.at.saturating_add(1), line, rest)
+            let end = self.at.saturating_add(length).saturating_sub(1);
+            (text, self.at.saturating_add(1), end, line, rest)
         } else {
             let line = without_comment(line);
             let Some(colon) = colon(line) else {
@@ -331,9 +333,11 @@ impl<'t> Reader<'t> {
             if text == "<<" {
                 return Err(self.mistake(MERGE));
             }
+            let text = text.trim_end();
             (
-                String::from_str(self.alloc, text.trim_end())?,
+                String::from_str(self.alloc, text)?,
                 self.at,
+                self.at.saturating_add(text.len()),
                 line,
                 rest,
             )
@@ -342,7 +346,12 @@ impl<'t> Reader<'t> {
             Some(behind) if behind.is_empty() || behind.starts_with(is_space) => {
                 let behind = behind.trim_start_matches(is_space);
                 let taken = line.len().saturating_sub(behind.len());
-                Ok(Some(Key { text, start, taken }))
+                Ok(Some(Key {
+                    text,
+                    start,
+                    end,
+                    taken,
+                }))
             }
             _ => Ok(None),
         }
@@ -387,8 +396,13 @@ impl<'t> Reader<'t> {
             };
         };
         self.enter(column, false)?;
-        let Key { text, start, taken } = key;
-        self.collector.take_key(text, start)?;
+        let Key {
+            text,
+            start,
+            end,
+            taken,
+        } = key;
+        self.collector.take_key(text, start, end)?;
         self.take(taken);
         self.value(column, false)
     }
@@ -491,7 +505,8 @@ impl<'t> Reader<'t> {
         let start = self.at;
         if matches!(c, '"' | '\'') {
             let Quoted { text, length, .. } = self.quoted_at(start)?;
-            self.collector.take_key(text, start.saturating_add(1))?;
+            let end = start.saturating_add(length).saturating_sub(1);
+            self.collector.take_key(text, start.saturating_add(1), end)?;
             self.take(length);
             return Ok(Next::Colon);
         }
@@ -503,7 +518,8 @@ impl<'t> Reader<'t> {
             return Err(self.mistake(MERGE));
         }
         let key = String::from_str(self.alloc, text)?;
-        self.collector.take_key(key, start)?;
+        let end = start.saturating_add(text.len());
+        self.collector.take_key(key, start, end)?;
         self.take(text.len());
         Ok(Next::Colon)
     }
