@@ -4,7 +4,7 @@ use crate::rules::Rule;
 use answers::asking::{Answer, Problem};
 use answers::explained::{Meaning, Piece};
 use answers::questions::version_outside;
-use deno_semver::PreRelease;
+use deno_semver::{PreRelease, RangeBound, VersionBound, VersionBoundKind, VersionRange};
 use semver_req::common::values::Flavour;
 use std::alloc::{AllocError, Global};
 
@@ -13,6 +13,28 @@ const MANY: usize = 32;
 
 /// The warnings about a range, and the rules that they come by.
 pub type Warnings = Vec<(Rule, String)>;
+
+// Whether the bound is this major version.
+fn is_major(bound: &VersionBound, major: u64) -> bool {
+    let version = &bound.version;
+    version.major == major && version.minor == 0 && version.patch == 0 && version.pre.is_empty()
+}
+
+// Whether the range is every 0.x, as of `^0`, `0`, `0.x` and `<1`.
+fn is_any_zero(range: &VersionRange) -> bool {
+    let is_from_zero = match &range.start {
+        RangeBound::Version(start) => {
+            start.kind == VersionBoundKind::Inclusive && is_major(start, 0)
+        }
+        RangeBound::Unbounded => true,
+    };
+    match &range.end {
+        RangeBound::Version(end) => {
+            is_from_zero && end.kind == VersionBoundKind::Exclusive && is_major(end, 1)
+        }
+        RangeBound::Unbounded => false,
+    }
+}
 
 // What is odd about one of several alternatives, or the only one.
 fn of_piece(
@@ -31,7 +53,7 @@ fn of_piece(
     } else if matches.lowest.is_none() {
         let warning = format!(in alloc; "`{text}` matches no version")?;
         (Rule::NoMatch, warning)
-    } else if matches!(text, "^0" | "^0.x" | "^0.*") {
+    } else if is_any_zero(&matches.range) {
         let hint = "matches every 0.x, though each may break: name its minor version";
         (Rule::AnyZero, format!(in alloc; "`{text}` {hint}")?)
     } else {
