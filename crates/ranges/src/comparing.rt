@@ -11,6 +11,7 @@ use semver_req::common::values::Flavour;
 use serde_json::{Value, put};
 use std::alloc::{AllocError, Global};
 use std::cmp::Ordering;
+use std::fmt;
 use std::io::Write;
 use terminal::console::{Console, Status, Stop, print_line};
 use terminal::given::Given;
@@ -18,9 +19,32 @@ use terminal::hints::url_behind;
 use terminal::input::read_ranges;
 use terminal::shown::{Quoted, Shown};
 
+/// A line of standard input, by its number from 1, in front of what is said of it; nothing of an argument.
+#[derive(Clone, Copy)]
+pub struct Line(pub Option<usize>);
+
+impl fmt::Display for Line {
+    fn fmt<W: fmt::Write>(&self, f: &mut fmt::Formatter<W>) -> fmt::Result {
+        match self.0 {
+            Some(number) => write!(f, "line {number}: "),
+            None => Ok(()),
+        }
+    }
+}
+
 /// Reports which of the arguments is invalid, and where, or that memory ran out.
 pub fn reject<O: Write, E: Write>(
     console: &mut Console<O, E>,
+    arguments: &[&str],
+    problem: &Problem,
+) -> Result<Status, Stop> {
+    reject_line(console, Line(None), arguments, problem)
+}
+
+/// The same for arguments that are a line of standard input.
+pub fn reject_line<O: Write, E: Write>(
+    console: &mut Console<O, E>,
+    line: Line,
     arguments: &[&str],
     problem: &Problem,
 ) -> Result<Status, Stop> {
@@ -47,7 +71,7 @@ pub fn reject<O: Write, E: Write>(
         console.json(json.into_json())?;
         return Ok(Status::Rejected);
     }
-    let status = console.complain(format_args!("{kind} {}", Quoted(argument)), message);
+    let status = console.complain(format_args!("{line}{kind} {}", Quoted(argument)), message);
     let grammar = match invalid.kind {
         Kind::Range | Kind::Package => Some(console.options.flavour),
         Kind::Reference => Some(Flavour::Specifier),
@@ -245,11 +269,12 @@ pub fn overlap<O: Write, E: Write>(
 // Prints the canonical form of a range, or its tag.
 fn print_canonical<O: Write, E: Write>(
     console: &mut Console<O, E>,
+    line: Line,
     text: &str,
 ) -> Result<Status, Stop> {
     let range = match range(console.alloc, console.options.flavour, 0, text) {
         Ok(range) => range,
-        Err(problem) => return reject(console, &[text], &problem),
+        Err(problem) => return reject_line(console, line, &[text], &problem),
     };
     if let Some(tag) = range.tag() {
         return print_tag(console, tag);
@@ -267,12 +292,15 @@ pub fn canonical<R: Input, O: Write, E: Write>(
     let mut status = Status::Answered;
     for text in given.matches.get_strs("RANGE").unwrap_or(&[]) {
         if *text != "-" {
-            status = status.worse(print_canonical(console, text)?);
+            status = status.worse(print_canonical(console, Line(None), text)?);
             continue;
         }
         let input = read_ranges(rt, console)?;
-        for line in input.as_str().lines().filter(|line| !line.is_empty()) {
-            status = status.worse(print_canonical(console, line)?);
+        for (place, text) in input.as_str().lines().enumerate() {
+            if !text.is_empty() {
+                let line = Line(Some(place.saturating_add(1)));
+                status = status.worse(print_canonical(console, line, text)?);
+            }
         }
     }
     Ok(status)

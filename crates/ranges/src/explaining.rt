@@ -1,6 +1,6 @@
 //! `ranges explain`: what a range means.
 
-use crate::comparing::{print_json, print_tag, reject};
+use crate::comparing::{Line, print_json, print_tag, reject_line};
 use answers::explained::{Explanation, Matches, Meaning, Piece, explain};
 use answers::explained_json::ranges_explained;
 use deno_semver::{PreRelease, RangeBound, Version, VersionBound, VersionBoundKind, VersionRange};
@@ -89,17 +89,21 @@ impl fmt::Display for PreReleases<'_> {
     }
 }
 
-// A piece, in plain words.
+// A piece, in plain words, and the line that it stands in, if it is left out.
 #[derive(Clone, Copy)]
-struct Line<'a> {
+struct Explained<'a> {
+    line: Line,
     piece: &'a Piece,
     pre_release: PreRelease,
     style: Style,
 }
 
-impl fmt::Display for Line<'_> {
+impl fmt::Display for Explained<'_> {
     fn fmt<W: fmt::Write>(&self, f: &mut fmt::Formatter<W>) -> fmt::Result {
         let text = self.piece.text.as_str().trim();
+        if matches!(self.piece.meaning, Meaning::LeftOut(_)) {
+            write!(f, "{}", self.line)?;
+        }
         write!(f, "\"{}\": ", Shown(text))?;
         let style = self.style;
         let (error, bounds, end) = (style.code(ERROR), style.code(BOUNDS), style.code(END));
@@ -135,6 +139,7 @@ pub fn has_left_out(pieces: &[Piece]) -> bool {
 // Prints each alternative on a line, an invalid one with its error, and the canonical form; or all as JSON.
 fn report_pieces<O: Write, E: Write>(
     console: &mut Console<O, E>,
+    line: Line,
     text: &str,
     pieces: &[Piece],
     normal: &str,
@@ -154,7 +159,8 @@ fn report_pieces<O: Write, E: Write>(
             let pre_release = options.pre_release;
             print_line(
                 &mut console.out,
-                Line {
+                Explained {
+                    line,
                     piece,
                     pre_release,
                     style,
@@ -172,6 +178,7 @@ fn report_pieces<O: Write, E: Write>(
 // Reports the tag that a text is, or each alternative on a line, and the canonical form.
 fn report_text<O: Write, E: Write>(
     console: &mut Console<O, E>,
+    line: Line,
     text: &str,
 ) -> Result<Status, Stop> {
     let (alloc, options) = (console.alloc, console.options);
@@ -186,9 +193,9 @@ fn report_text<O: Write, E: Write>(
             Ok(Status::Tag)
         }
         Ok(Explanation::Ranges { pieces, normal }) => {
-            report_pieces(console, text, pieces.as_slice(), normal.as_str())
+            report_pieces(console, line, text, pieces.as_slice(), normal.as_str())
         }
-        Err(problem) => reject(console, &[text], &problem),
+        Err(problem) => reject_line(console, line, &[text], &problem),
     }
 }
 
@@ -202,12 +209,15 @@ pub fn report<R: Input, O: Write, E: Write>(
     let mut status = Status::Answered;
     for text in given.matches.get_strs("RANGE").unwrap_or(&[]) {
         if *text != "-" {
-            status = status.worse(report_text(console, text)?);
+            status = status.worse(report_text(console, Line(None), text)?);
             continue;
         }
         let input = read_ranges(rt, console)?;
-        for line in input.as_str().lines().filter(|line| !line.is_empty()) {
-            status = status.worse(report_text(console, line)?);
+        for (place, text) in input.as_str().lines().enumerate() {
+            if !text.is_empty() {
+                let line = Line(Some(place.saturating_add(1)));
+                status = status.worse(report_text(console, line, text)?);
+            }
         }
     }
     Ok(status)
