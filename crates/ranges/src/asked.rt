@@ -1,6 +1,7 @@
 //! `ranges asked`: what several manifests ask of the same packages.
 
 use crate::apart::first_apart;
+use crate::catalogs::{Catalogs, resolved, shelve};
 use crate::fixing::range_of_specifier;
 use crate::walking::{Group, Manifests, find, read_file};
 use answers::asking::Problem;
@@ -32,19 +33,27 @@ struct Asker {
     /// What stands in the file.
     text: String,
     range: String,
+    /// Why it is left out, if it is.
+    left_out: Option<&'static str>,
 }
 
-// Who asks for a package, and the ranges in the same order.
+// Who asks for a package by a range, and the ranges in the same order; and who asks by something else.
 struct Package {
     askers: Vec<Asker>,
     reqs: Vec<VersionReq>,
+    others: Vec<Asker>,
 }
 
 impl Drop for Package {
     fn drop(self) {
-        let Package { askers, reqs } = self;
+        let Package {
+            askers,
+            reqs,
+            others,
+        } = self;
         drop(askers);
         drop(reqs);
+        drop(others);
     }
 }
 
@@ -62,9 +71,10 @@ struct Agreement {
 impl Package {
     // Whether several manifests ask for it.
     fn is_shared(&self) -> bool {
-        match (self.askers.first(), self.askers.last()) {
-            (Some(first), Some(last)) => first.file.as_str() != last.file.as_str(),
-            (_, _) => false,
+        let mut all = self.askers.iter().chain(self.others.iter());
+        match all.next() {
+            Some(first) => all.any(|asker| asker.file.as_str() != first.file.as_str()),
+            None => false,
         }
     }
 
@@ -79,12 +89,13 @@ impl Package {
 
 // ---- what entries ask for
 
-// A package that is asked for by a range of a grammar.
+// A package that is asked for by a range of a grammar, or a reference to a catalog that has none.
 #[derive(Drop)]
 struct Request {
     name: String,
     range: String,
     flavour: Flavour,
+    is_missing: bool,
 }
 
 // A manifest, and what stands in it.
@@ -92,59 +103,6 @@ struct Request {
 struct Manifest {
     path: String,
     entries: Vec<Entry>,
-}
-
-// The name of the catalog that a key or a reference names; the one without a name has two.
-fn catalog_name(name: &str) -> &str {
-    match name {
-        "" | "default" => "catalog",
-        name => name,
-    }
-}
-
-// What a catalog has for a package.
-#[derive(Drop)]
-struct Shelved {
-    catalog: String,
-    text: String,
-}
-
-// What all catalogs have, by the names of packages.
-type Catalogs = BTreeMap<String, Vec<Shelved>>;
-
-// Adds an entry, if it is of a catalog.
-fn shelve(alloc: Global, catalogs: &mut Catalogs, entry: &Entry) -> Result<(), AllocError> {
-    let is_catalog = matches!(
-        entry.section,
-        "catalog" | "catalogs" | "workspaces" | "workspace"
-    );
-    if entry.kind != Kind::Dependency || !is_catalog {
-        return Ok(());
-    }
-    let shelved = Shelved {
-        catalog: String::from_str(alloc, catalog_name(entry.object.as_str()))?,
-        text: String::from_str(alloc, entry.text.as_str())?,
-    };
-    let name = entry.name.as_str();
-    if !catalogs.contains_key(name) {
-        let _ = catalogs.insert(String::from_str(alloc, name)?, Vec::new(alloc))?;
-    }
-    if let Some(all) = catalogs.get_mut(name) {
-        all.push(shelved)?;
-    }
-    Ok(())
-}
-
-// The text of a dependency, or what the catalog has for it that the text refers to.
-fn resolved<'e>(catalogs: &'e Catalogs, entry: &'e Entry) -> Option<&'e str> {
-    let text = entry.text.as_str();
-    let Some(catalog) = text.strip_prefix("catalog:") else {
-        return Some(text);
-    };
-    let catalog = catalog_name(catalog);
-    let all = catalogs.get(entry.name.as_str())?;
-    let found = all.iter().find(|it| it.catalog.as_str() == catalog)?;
-    Some(found.text.as_str())
 }
 
 // What a specifier of npm or JSR asks for.
@@ -166,6 +124,7 @@ fn of_specifier(alloc: Global, text: &str) -> Result<Option<Request>, Stop> {
         name,
         range: String::from_str(alloc, range)?,
         flavour,
+        is_missing: false,
     }))
 }
 
@@ -185,6 +144,7 @@ fn of_dependency(alloc: Global, name: &str, text: &str) -> Result<Option<Request
         name: format!(in alloc; "{kind}{name}")?,
         range: String::from_str(alloc, range)?,
         flavour: Flavour::Npm,
+        is_missing: false,
     }))
 }
 
@@ -197,13 +157,34 @@ fn asked_by(alloc: Global, catalogs: &Catalogs, entry: &Entry) -> Result<Option<
             "dependencies" | "devDependencies" | "optionalDependencies" | "peerDependencies",
         ) => match resolved(catalogs, entry) {
             Some(text) => Ok(of_dependency(alloc, entry.name.as_str(), text)?),
-            None => Ok(None),
+            None => Ok(Some(Request {
+                name: String::from_str(alloc, entry.name.as_str())?,
+                range: String::from_str(alloc, entry.text.as_str())?,
+                flavour: Flavour::Npm,
+                is_missing: true,
+            })),
         },
         (_, _) => Ok(None),
     }
 }
 
-// Adds what an entry of a file asks for. Tags, and texts that aren't ranges, are passed over.
+// The range that a package is asked for by, or why that is left out.
+fn read(
+    alloc: Global,
+    asked: &Request,
+) -> Result<(Option<VersionReq>, Option<&'static str>), AllocError> {
+    if asked.is_missing {
+        return Ok((None, Some("the catalog has no entry for it")));
+    }
+    match range(alloc, asked.flavour, 0, asked.range.as_str()) {
+        Ok(req) if req.tag().is_some() => Ok((None, Some("a tag"))),
+        Ok(req) => Ok((Some(req), None)),
+        Err(Problem::Invalid(_)) => Ok((None, Some("not a version range"))),
+        Err(Problem::OutOfMemory) => Err(AllocError),
+    }
+}
+
+// Adds what an entry of a file asks for.
 fn add(
     alloc: Global,
     packages: &mut Packages,
@@ -211,36 +192,32 @@ fn add(
     entry: &Entry,
     asked: Request,
 ) -> Result<(), Stop> {
-    let Request {
-        name,
-        range: text,
-        flavour,
-    } = asked;
-    let req = match range(alloc, flavour, 0, text.as_str()) {
-        Ok(req) => req,
-        Err(Problem::Invalid(_)) => return Ok(()),
-        Err(Problem::OutOfMemory) => return Err(Stop::OutOfMemory),
-    };
-    if req.tag().is_some() {
-        return Ok(());
-    }
+    let (req, left_out) = read(alloc, &asked)?;
+    let Request { name, range, .. } = asked;
     let asker = Asker {
         file: String::from_str(alloc, path)?,
         section: entry.section,
         text: String::from_str(alloc, entry.text.as_str())?,
-        range: text,
+        range,
+        left_out,
     };
     let name = name.as_str();
     if !packages.contains_key(name) {
         let package = Package {
             askers: Vec::new(alloc),
             reqs: Vec::new(alloc),
+            others: Vec::new(alloc),
         };
         let _ = packages.insert(String::from_str(alloc, name)?, package)?;
     }
     if let Some(package) = packages.get_mut(name) {
-        package.askers.push(asker)?;
-        package.reqs.push(req)?;
+        match req {
+            Some(req) => {
+                package.askers.push(asker)?;
+                package.reqs.push(req)?;
+            }
+            None => package.others.push(asker)?,
+        }
     }
     Ok(())
 }
@@ -298,9 +275,10 @@ fn json(
     agreement: &Agreement,
 ) -> Result<Value, AllocError> {
     let mut askers = Vec::new(alloc);
-    for asker in package.askers.iter() {
+    for asker in package.askers.iter().chain(package.others.iter()) {
         let json = Object::new(alloc)
             .put_text("file", Some(asker.file.as_str()))
+            .put_text("left-out", asker.left_out)
             .put_text("range", Some(asker.range.as_str()))
             .put_text("section", Some(asker.section))
             .put_text("text", Some(asker.text.as_str()));
@@ -336,15 +314,21 @@ fn print<O: Write, E: Write>(
                 format_args!("{name}: \"{one}\" and \"{other}\" exclude each other"),
             )?;
         }
+        (None, None) if package.askers.is_empty() => {
+            print_line(out, format_args!("{name}: nobody asks by a range"))?;
+        }
         (None, None) => print_line(out, format_args!("{name}: no version matches all"))?,
     }
-    for asker in package.askers.iter() {
+    for asker in package.askers.iter().chain(package.others.iter()) {
         let (file, text) = (Shown(asker.file.as_str()), Quoted(asker.text.as_str()));
         let section = asker.section;
         write!(out, "  {file}: {section}: {text}")?;
         // Of an alias the range stands at the end of the text.
         if !asker.text.as_str().ends_with(asker.range.as_str()) {
             write!(out, ", {}", Quoted(asker.range.as_str()))?;
+        }
+        if let Some(left_out) = asker.left_out {
+            write!(out, ": left out: {left_out}")?;
         }
         print_line(out, "")?;
     }
@@ -399,13 +383,18 @@ pub fn report<R: Runtime + AllocGlobal, O: Write, E: Write>(
     for group in groups.iter() {
         status = status.worse(add_manifests(rt, console, group, &mut manifests)?);
     }
+    if manifests.len() == 1 {
+        console.tell("only one manifest was found: asked compares several");
+    }
     let packages = all_packages(alloc, manifests.as_slice())?;
     for (name, package) in packages.iter() {
         if !package.is_shared() {
             continue;
         }
         let agreement = agreed(alloc, package, console.options.pre_release)?;
-        status = status.worse(Status::of(agreement.lowest.is_some()));
+        // Of tags alone nothing is known.
+        let is_agreed = agreement.lowest.is_some() || package.askers.is_empty();
+        status = status.worse(Status::of(is_agreed));
         if console.options.json {
             console.item(json(alloc, name.as_str(), package, &agreement))?;
         } else {

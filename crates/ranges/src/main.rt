@@ -11,6 +11,7 @@
 mod advice;
 mod apart;
 mod asked;
+mod catalogs;
 mod checking;
 mod comparing;
 mod diff;

@@ -1,0 +1,59 @@
+//! Catalogs: the ranges to which the manifests of a workspace refer by `catalog:`.
+
+use std::alloc::{AllocError, Global};
+use std::collections::BTreeMap;
+use terminal::entry::Entry;
+use terminal::sections::Kind;
+
+/// The name of the catalog that a key or a reference names; the one without a name has two.
+pub fn catalog_name(name: &str) -> &str {
+    match name {
+        "" | "default" => "catalog",
+        name => name,
+    }
+}
+
+/// What a catalog has for a package.
+#[derive(Drop)]
+pub struct Shelved {
+    catalog: String,
+    text: String,
+}
+
+/// What all catalogs have, by the names of packages.
+pub type Catalogs = BTreeMap<String, Vec<Shelved>>;
+
+/// Adds an entry, if it is of a catalog.
+pub fn shelve(alloc: Global, catalogs: &mut Catalogs, entry: &Entry) -> Result<(), AllocError> {
+    let is_catalog = matches!(
+        entry.section,
+        "catalog" | "catalogs" | "workspaces" | "workspace"
+    );
+    if entry.kind != Kind::Dependency || !is_catalog {
+        return Ok(());
+    }
+    let shelved = Shelved {
+        catalog: String::from_str(alloc, catalog_name(entry.object.as_str()))?,
+        text: String::from_str(alloc, entry.text.as_str())?,
+    };
+    let name = entry.name.as_str();
+    if !catalogs.contains_key(name) {
+        let _ = catalogs.insert(String::from_str(alloc, name)?, Vec::new(alloc))?;
+    }
+    if let Some(all) = catalogs.get_mut(name) {
+        all.push(shelved)?;
+    }
+    Ok(())
+}
+
+/// The text of a dependency, or what the catalog has for it that the text refers to.
+pub fn resolved<'e>(catalogs: &'e Catalogs, entry: &'e Entry) -> Option<&'e str> {
+    let text = entry.text.as_str();
+    let Some(catalog) = text.strip_prefix("catalog:") else {
+        return Some(text);
+    };
+    let catalog = catalog_name(catalog);
+    let all = catalogs.get(entry.name.as_str())?;
+    let found = all.iter().find(|it| it.catalog.as_str() == catalog)?;
+    Some(found.text.as_str())
+}
