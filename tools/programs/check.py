@@ -10,8 +10,8 @@ A row of PROGRAM.jsonl is a JSON object: `arguments`, those after the program's 
 standard error and the status; absent texts are empty. A byte of arguments, input or files that isn't valid UTF-8 is written as Python's
 surrogateescape has it, `\\udcff` for 255. A row may also have
 
-    files    an object of files by name, in a folder in which the program runs; each is a text, or an object of `text` and `mode`; a folder's
-             name ends with `/`
+    files    an object of files by name, in a folder in which the program runs; each is a text, or an object of `text`, `mode`, and `owner`
+             if another than the one who runs the program owns it; a folder's name ends with `/`
     after    what some of the files hold then, in the same form, and null for one that isn't there
     env      an object of variables for the environment
     tty      a list of `stdin`, `stdout` and `stderr`, each of which is a terminal of its own
@@ -166,7 +166,7 @@ def stream(row, name):
 
 def run(program, row, seconds=60):
     """What the program writes, its status, and what files hold then, if the row says it. Where a file has a mode, root runs the program as
-    nobody, whose folder it is, and a copy of it."""
+    nobody, whose folder and files these are, and a copy of it."""
     streams = {name: stream(row, name) for name in ("stdin", "stdout", "stderr")}
     given = as_bytes(row.get("stdin", ""))
     env = {name: held for name, held in os.environ.items() if name not in ("NO_COLOR", "TERM")} | row.get("env", {})
@@ -174,7 +174,9 @@ def run(program, row, seconds=60):
         words, options = [*COMMAND, str(program)], {"cwd": room, "env": env, "preexec_fn": prepare}
         if os.geteuid() == 0 and any(isinstance(it, dict) for it in row.get("files", {}).values()):
             words[-1] = shutil.copy(program, room)
-            os.chown(room, 65534, 65534)
+            for name, held in {".": {}, **row["files"]}.items():
+                if isinstance(held, dict) and "owner" not in held and (name == "." or "text" in held):
+                    os.chown(pathlib.Path(room) / name, 65534, 65534)
             options |= {"user": 65534, "group": 65534, "extra_groups": (), "preexec_fn": limit_own_stack}
         if COMMAND:
             options["preexec_fn"] = None  # an emulator needs its own stack

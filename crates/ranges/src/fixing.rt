@@ -12,7 +12,7 @@ use package_answers::references::read_reference;
 use semver_req::common::values::Flavour;
 use semver_req::error_places::pieces::invalid_pieces_behind;
 use std::alloc::{AllocError, Global};
-use std::fs::{Metadata, OpenFile, Permissions};
+use std::fs::{Metadata, OpenFile, OpenOptions, Permissions};
 use std::io::{ErrorKind, Write};
 use std::os::unix::fs as unix;
 use std::os::unix::fs::MetadataExt;
@@ -424,9 +424,14 @@ struct Target {
     spot: Spot,
 }
 
+// Where a file is written that may be written to.
 fn spot_of<R: Files + AllocGlobal>(rt: &R, path: &str) -> io::Result<Spot> {
     let real = fs::canonicalize(rt, path)?;
     let data = fs::metadata(rt, real.as_str())?;
+    let mut options = OpenOptions::new();
+    let _ = options.write(true);
+    let opened = options.open(rt, real.as_str())?;
+    drop(opened);
     let beside = format!(in rt.alloc(); "{}.ranges-new", real.as_str())?;
     Ok(Spot { real, beside, data })
 }
@@ -438,12 +443,18 @@ impl Spot {
         let written = fill(&mut file, text, self.data.permissions());
         if written.is_err() {
             self.remove(rt);
-        } else {
-            // The owner stays only where the system lets one give files away.
-            let (user, group) = (Some(self.data.uid()), Some(self.data.gid()));
-            let _ = unix::chown(rt, self.beside.as_str(), user, group);
         }
         written
+    }
+
+    // Gives what stands beside the file the file's owner and group. The system lets only some do so.
+    fn keep_owner<R: Files>(&self, rt: &R) -> io::Result<()> {
+        let data = fs::metadata(rt, self.beside.as_str())?;
+        let (user, group) = (self.data.uid(), self.data.gid());
+        if data.uid() == user && data.gid() == group {
+            return Ok(());
+        }
+        unix::chown(rt, self.beside.as_str(), Some(user), Some(group))
     }
 
     // Gives what stands beside the file its name.
@@ -458,6 +469,7 @@ impl Spot {
     // Writes what the file held before.
     fn restore<R: Files>(&self, rt: &R, old: &str) -> io::Result<()> {
         self.write(rt, old)?;
+        let _ = self.keep_owner(rt);
         let renamed = self.rename(rt);
         if renamed.is_err() {
             self.remove(rt);
@@ -542,6 +554,11 @@ fn write_beside<R: Files + AllocGlobal, O: Write, E: Write>(
         if let Err(error) = spot.write(rt, file.new.as_str()) {
             remove_all(rt, targets.get(..place).unwrap_or(&[]));
             return complain(console, file.path.as_str(), &error);
+        }
+        if spot.keep_owner(rt).is_err() {
+            remove_all(rt, targets.get(..=place).unwrap_or(&[]));
+            let message = "its owner or group would change: no file is rewritten";
+            return Ok(console.complain(Shown(file.path.as_str()), message));
         }
     }
     let changed = first_changed(rt, targets);
