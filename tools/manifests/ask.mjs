@@ -6,6 +6,8 @@ import { createRequire } from 'node:module'
 const require = createRequire(process.argv[2] + '/')
 const npa = require('npm-package-arg')
 const semver = require('semver')
+const Node = require('@npmcli/arborist/lib/node.js')
+const { virtual } = require('@npmcli/map-workspaces')
 const SECTIONS = ['dependencies', 'devDependencies', 'peerDependencies', 'optionalDependencies']
 
 // The type of a dependency with this text, or `refused`. A range of a repository's tags is one that semver refuses, or not.
@@ -26,6 +28,26 @@ function* overridden(held) {
   }
 }
 
+// The rules that overrides are, one in another.
+function* rulesOf(set) {
+  for (const rule of set.children.values()) {
+    yield rule
+    yield* rulesOf(rule)
+  }
+}
+
+// Stops where npm stops at overrides or workspaces. What it says only of a package that the tree has is asked here as if the tree had it.
+function resolve(manifest) {
+  const root = new Node({ path: '/tmp', pkg: manifest, loadOverrides: true })
+  root.assertRootOverrides()
+  const names = new Set(SECTIONS.flatMap((section) => Object.keys(manifest[section] ?? {})))
+  for (const { keySpec, value } of root.overrides ? rulesOf(root.overrides) : []) {
+    if (keySpec !== '*') semver.intersects('*', keySpec)
+    if (value.startsWith('$') && !names.has(value.slice(1))) throw new Error(`Unable to resolve reference ${value}`)
+  }
+  if (manifest.workspaces !== undefined) virtual({ lockfile: { packages: { '': manifest } } })
+}
+
 function isRefused(text) {
   let manifest
   try {
@@ -36,11 +58,17 @@ function isRefused(text) {
   if (Array.isArray(manifest)) return true
   const asked = SECTIONS.flatMap((section) => Object.entries(manifest[section] ?? {}))
   const isOdd = manifest.version && semver.valid(manifest.version.trim(), true) === null
-  return Boolean(isOdd) || [...asked, ...overridden(manifest.overrides ?? {})].some(([name, text]) => typeOf(name, text) === 'refused')
+  if (isOdd || [...asked, ...overridden(manifest.overrides ?? {})].some(([name, text]) => typeOf(name, text) === 'refused')) return true
+  try {
+    resolve(manifest)
+    return false
+  } catch {
+    return true
+  }
 }
 
 const { specifiers, manifests } = JSON.parse(readFileSync(0, 'utf8'))
-const versions = Object.fromEntries(['npm-package-arg', 'semver'].map((name) => [name, require(`${name}/package.json`).version]))
+const versions = Object.fromEntries(['@npmcli/arborist', '@npmcli/map-workspaces', 'npm-package-arg', 'semver'].map((name) => [name, require(`${name}/package.json`).version]))
 console.log(JSON.stringify({
   versions,
   specifiers: specifiers.map((text) => typeOf('p', text)),

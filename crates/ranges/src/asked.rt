@@ -177,8 +177,13 @@ fn read(
         return Ok((None, Some("the catalog has no entry for it")));
     }
     match range(alloc, asked.flavour, 0, asked.range.as_str()) {
-        Ok(req) if req.tag().is_some() => Ok((None, Some("a tag"))),
-        Ok(req) => Ok((Some(req), None)),
+        Ok(req) => {
+            if req.tag().is_some() {
+                drop(req);
+                return Ok((None, Some("a tag")));
+            }
+            Ok((Some(req), None))
+        }
         Err(Problem::Invalid(_)) => Ok((None, Some("not a version range"))),
         Err(Problem::OutOfMemory) => Err(AllocError),
     }

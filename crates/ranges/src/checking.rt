@@ -4,9 +4,11 @@ use crate::advice::{bound_of_pre_releases, warnings};
 use crate::errors::{errors_at_end, errors_of};
 use crate::explaining::has_left_out;
 use crate::findings::{Cause, Finding, Format, Position, Report};
-use crate::fixing::{Rewritten, apply, print_diffs, rewrite, write_all};
+use crate::fixing::{Rewritten, apply, print_diffs, rewrite, set_above, write_all};
+use crate::known::{Known, known_of};
+use crate::overriding::Overrides;
 use crate::rules::{Levels, Rule};
-use crate::walking::{Group, Manifests, find, read_file};
+use crate::walking::{Group, Manifests, find, path_in_repository, read_file};
 use answers::asking::{Answer, Problem};
 use answers::explained::{Explanation, Meaning, Piece, explain};
 use answers::questions::common_version;
@@ -23,10 +25,13 @@ use terminal::console::{Console, Status, Stop, print_line};
 use terminal::entry::Entry;
 use terminal::hints::{question, url_behind};
 use terminal::manifest::entries;
-use terminal::npm::{self, Reading, Source, number_behind_wildcard, source_of};
+use terminal::npm::{
+    self, Reading, Source, ends_in_key, is_package_name, name_and_range, number_behind_wildcard,
+    number_behind_zero, source_of,
+};
 use terminal::pointing::version_errors;
 use terminal::sections::Kind;
-use terminal::shown::{Quoted, Shown};
+use terminal::shown::{Quoted, Shown, part};
 
 // ---- ranges
 
@@ -178,6 +183,12 @@ fn warn<O: Write, E: Write>(
         && entry.kind != Kind::Specifier
     {
         let message = format!(in alloc; "npm reads `{word}` as `{read}`");
+        report.tell(console, entry, Rule::NpmDiffers, message)?;
+    }
+    if let Some(number) = number_behind_zero(range)
+        && entry.kind != Kind::Specifier
+    {
+        let message = format!(in alloc; "node-semver refuses the zero of `{number}`, or drops it");
         report.tell(console, entry, Rule::NpmDiffers, message)?;
     }
     let warnings = warnings(alloc, pieces)?;
@@ -342,6 +353,117 @@ fn check_specifier<O: Write, E: Write>(
     }
 }
 
+// Whether a range behind the name in a key of overrides is one: npm reads it strictly, and has no tags there.
+fn is_range_of_key(alloc: Global, range: &str, is_of_npm: bool) -> Result<bool, AllocError> {
+    let is_range = match explain(alloc, Flavour::Npm, PreRelease::Restricted, range) {
+        Ok(Explanation::Ranges { pieces, .. }) => !has_left_out(pieces.as_slice()),
+        Ok(Explanation::Tag(_)) => return Ok(!is_of_npm),
+        Err(Problem::Invalid(_)) => false,
+        Err(Problem::OutOfMemory) => return Err(AllocError),
+    };
+    let read = npm::read_range(range);
+    let is_alike = read.reading == Reading::Range && read.ignored.is_none();
+    Ok(is_range && is_alike && read.dropped.is_none() && number_behind_zero(range).is_none())
+}
+
+// Checks a name with its range, with which the part of a key of overrides up to an index ends.
+fn check_key_part<O: Write, E: Write>(
+    console: &mut Console<O, E>,
+    report: &mut Report<'_>,
+    entry: &Entry,
+    text: &str,
+    range: &str,
+    is_of_npm: bool,
+) -> Result<(), Stop> {
+    let range = if is_of_npm {
+        range
+    } else {
+        match source_of(range.strip_prefix("npm:").unwrap_or(range)) {
+            Source::Registry(range) => range,
+            _ => "",
+        }
+    };
+    if range.is_empty() {
+        return Ok(());
+    }
+    if is_range_of_key(console.alloc, range, is_of_npm)? {
+        return Ok(());
+    }
+    let message = if is_of_npm {
+        "npm refuses it: Invalid comparator"
+    } else {
+        "not a version range"
+    };
+    let errors = errors_at_end(console.alloc, Flavour::Npm, text, range)?;
+    report.add_with(console, entry, Cause::Refused, message, &errors)
+}
+
+// Checks a key of overrides, in which this text stands before another name.
+fn check_key<O: Write, E: Write>(
+    console: &mut Console<O, E>,
+    report: &mut Report<'_>,
+    entry: &Entry,
+    separator: &str,
+) -> Result<(), Stop> {
+    let key = entry.text.as_str();
+    let is_of_npm = separator.is_empty();
+    if is_of_npm && !is_package_name(name_and_range(key).0) {
+        let message = "npm refuses it: Override without name";
+        return report.add(console, entry, Finding::new(Cause::Refused, message));
+    }
+    let mut start = 0usize;
+    for end in ends_in_key(console.alloc, key, separator)?.iter() {
+        let (_, range) = name_and_range(part(key, start, *end));
+        start = end.saturating_add(1);
+        let text = part(key, 0, *end);
+        check_key_part(console, report, entry, text, range, is_of_npm)?;
+    }
+    Ok(())
+}
+
+// Reports that a text of overrides refers to a dependency that isn't there.
+fn check_reference<O: Write, E: Write>(
+    console: &mut Console<O, E>,
+    report: &mut Report<'_>,
+    entry: &Entry,
+    overrides: &Overrides<'_>,
+) -> Result<(), Stop> {
+    let Some(name) = overrides.missing(entry.text.as_str()) else {
+        return Ok(());
+    };
+    let message = if entry.section == "pnpm" {
+        format!(in console.alloc; "pnpm refuses it: no dependency is named `{name}`")?
+    } else {
+        format!(in console.alloc; "npm refuses it: Unable to resolve reference ${name}")?
+    };
+    report.add(
+        console,
+        entry,
+        Finding::new(Cause::Refused, message.as_str()),
+    )
+}
+
+// Reports that an override is in conflict with a direct dependency.
+fn check_conflict<'e, O: Write, E: Write>(
+    console: &mut Console<O, E>,
+    report: &mut Report<'_>,
+    entry: &'e Entry,
+    overrides: &mut Overrides<'e>,
+) -> Result<(), Stop> {
+    let Some(direct) = overrides.conflict(console.alloc, entry)? else {
+        return Ok(());
+    };
+    let (name, range) = (direct.name.as_str(), direct.text.as_str());
+    let message = format!(in console.alloc;
+        "npm refuses it: Override for {name}@{range} conflicts with direct dependency"
+    )?;
+    report.add(
+        console,
+        entry,
+        Finding::new(Cause::Refused, message.as_str()),
+    )
+}
+
 // Checks the version of a package.
 fn check_version<O: Write, E: Write>(
     console: &mut Console<O, E>,
@@ -434,19 +556,56 @@ struct Names<'e> {
     asked: HashMap<&'e str, &'e Entry>,
     /// The names of all peer dependencies.
     peers: HashSet<&'e str>,
+    overrides: Overrides<'e>,
+    /// Whether the workspaces have a list of patterns.
+    has_packages: bool,
 }
 
 // What is checked: a file, and what holds for it.
 #[derive(Clone, Copy)]
 struct Checked<'f> {
     path: &'f str,
+    /// The path that findings name.
+    shown: &'f str,
     text: &'f str,
+    /// Whether npm installs it by itself, and so takes its overrides.
+    is_root: bool,
     /// Whether the levels that it sets count for all files of its group.
     is_own: bool,
     /// The patterns of workspaces in the group's own files that no folder matches.
     unmatched: &'f [String],
+    /// What is known of the workspace.
+    known: &'f Known,
     /// The settings of the arguments.
     settings: &'f [&'f str],
+}
+
+// Checks what an entry of dependencies says with others, and with what is known of the workspace.
+fn check_relations<'e, O: Write, E: Write>(
+    console: &mut Console<O, E>,
+    report: &mut Report<'_>,
+    names: &mut Names<'e>,
+    file: Checked<'_>,
+    entry: &'e Entry,
+) -> Result<(), Stop> {
+    match entry.section {
+        "dependencies" | "devDependencies" | "optionalDependencies" | "peerDependencies" => {
+            if let Some(message) = file.known.refusal(console.alloc, entry)? {
+                let finding = Finding::new(Cause::Refused, message.as_str());
+                report.add(console, entry, finding)?;
+            }
+        }
+        "overrides" | "pnpm" if file.is_root && !file.path.ends_with(".yaml") => {
+            check_reference(console, report, entry, &names.overrides)?;
+        }
+        _ => (),
+    }
+    if asked_range(entry).is_some()
+        && let Some(other) = names.asked.insert(entry.name.as_str(), entry)?
+    {
+        check_sections(console, report, entry, other)?;
+    }
+    Ok(())
 }
 
 // Checks an entry.
@@ -460,12 +619,7 @@ fn check_entry<'e, O: Write, E: Write>(
     match entry.kind {
         Kind::Dependency => {
             check_dependency(console, report, entry)?;
-            if asked_range(entry).is_some()
-                && let Some(other) = names.asked.insert(entry.name.as_str(), entry)?
-            {
-                check_sections(console, report, entry, other)?;
-            }
-            Ok(())
+            check_relations(console, report, names, file, entry)
         }
         Kind::Range => check_dependency(console, report, entry),
         Kind::Engine => check_range(console, report, entry, Flavour::Npm, entry.text.as_str()),
@@ -497,12 +651,41 @@ fn check_entry<'e, O: Write, E: Write>(
                 Finding::by(Rule::UnmatchedWorkspace, message),
             )
         }
-        Kind::Workspace | Kind::ImportMap | Kind::Level | Kind::Setting | Kind::Name => Ok(()),
-        Kind::Override(_) | Kind::Workspaces | Kind::Packages => Ok(()),
+        Kind::Override(separator) => {
+            check_key(console, report, entry, separator)?;
+            if file.is_root && separator.is_empty() && entry.depth == 1 {
+                check_conflict(console, report, entry, &mut names.overrides)?;
+            }
+            Ok(())
+        }
+        Kind::Workspaces if !names.has_packages => {
+            let message = "npm refuses it: workspaces config expects an Array";
+            report.add(console, entry, Finding::new(Cause::Refused, message))
+        }
+        Kind::Workspace
+        | Kind::Workspaces
+        | Kind::Packages
+        | Kind::Name
+        | Kind::ImportMap
+        | Kind::Level
+        | Kind::Setting => Ok(()),
     }
 }
 
 // ---- files
+
+// Sets a level, or says what isn't known of it.
+fn set_level(
+    alloc: Global,
+    report: &mut Report<'_>,
+    entry: &Entry,
+) -> Result<Option<String>, AllocError> {
+    let (name, level) = (entry.name.as_str(), entry.text.as_str());
+    match report.levels.set(alloc, name, level)? {
+        Some(unknown) => Ok(Some(format!(in alloc; "{unknown}")?)),
+        None => Ok(None),
+    }
+}
 
 // Sets the levels that a file asks for.
 fn set_levels<O: Write, E: Write>(
@@ -510,12 +693,17 @@ fn set_levels<O: Write, E: Write>(
     report: &mut Report<'_>,
     entries: &[Entry],
 ) -> Result<(), Stop> {
-    let alloc = console.alloc;
-    for entry in entries.iter().filter(|entry| entry.kind == Kind::Level) {
-        let (name, level) = (entry.name.as_str(), entry.text.as_str());
-        if let Some(unknown) = report.levels.set(alloc, name, level)? {
+    for entry in entries {
+        let message = match entry.kind {
+            Kind::Level => set_level(console.alloc, report, entry)?,
+            Kind::Setting => {
+                let message = "no such setting in `ranges`; there is `rules`";
+                Some(String::from_str(console.alloc, message)?)
+            }
+            _ => None,
+        };
+        if let Some(message) = message {
             report.position.move_to(report.text, entry.start);
-            let message = format!(in alloc; "{unknown}")?;
             report.add(
                 console,
                 entry,
@@ -538,6 +726,8 @@ fn check_entries<O: Write, E: Write>(
     let mut names = Names {
         asked: HashMap::new(console.alloc),
         peers: HashSet::new(console.alloc),
+        overrides: Overrides::of(console.alloc, entries)?,
+        has_packages: entries.iter().any(|entry| entry.kind == Kind::Packages),
     };
     for entry in entries
         .iter()
@@ -562,7 +752,7 @@ fn check_text<O: Write, E: Write>(
     let text = file.text.strip_prefix('\u{feff}').unwrap_or(file.text);
     let entries = entries(console.alloc, file.path, text)?;
     let mut report = Report {
-        file: file.path,
+        file: file.shown,
         text,
         ..*group
     };
@@ -610,6 +800,24 @@ fn try_settings<O: Write, E: Write>(
     Ok(())
 }
 
+// Whether npm installs the file at a place of a group by itself: it stands in the folder that was given, or was given, and belongs to no
+// workspace.
+fn is_root(group: &Group, place: usize) -> bool {
+    group.above.is_empty() && (place < group.own || group.own == 0)
+}
+
+// The path that findings name: in what GitHub reads, the one from the top of the repository.
+fn shown_path<R: Files + AllocGlobal>(rt: &R, format: Format, path: &str) -> Result<String, Stop> {
+    if !format.is_of_repository() {
+        return Ok(String::from_str(rt.alloc(), path)?);
+    }
+    match path_in_repository(rt, path) {
+        Ok(shown) => Ok(shown),
+        // Nothing else goes wrong.
+        Err(_) => Err(Stop::OutOfMemory),
+    }
+}
+
 // Checks the files of a group.
 fn check_group<R: Input + Files + AllocGlobal, O: Write, E: Write>(
     rt: &R,
@@ -620,12 +828,19 @@ fn check_group<R: Input + Files + AllocGlobal, O: Write, E: Write>(
 ) -> Result<Status, Stop> {
     let mut report = *report;
     let mut status = Status::Answered;
+    let known = known_of(rt, group)?;
+    set_above(rt, &mut report.levels, group)?;
     for (place, path) in group.paths.iter().enumerate() {
+        let path = path.as_str();
+        let shown = shown_path(rt, report.format, path)?;
         let file = Checked {
-            path: path.as_str(),
+            path,
+            shown: shown.as_str(),
             text: "",
+            is_root: is_root(group, place),
             is_own: place < group.own,
             unmatched: group.unmatched.as_slice(),
+            known: &known,
             settings,
         };
         status = status.worse(check_file(rt, console, &mut report, file)?);
@@ -634,7 +849,8 @@ fn check_group<R: Input + Files + AllocGlobal, O: Write, E: Write>(
 }
 
 // Prints on standard error what --fix leaves in the files of a group, from this place on.
-fn check_rewritten<O: Write, E: Write>(
+fn check_rewritten<R: Files + AllocGlobal, O: Write, E: Write>(
+    rt: &R,
     console: &mut Console<O, E>,
     report: &Report<'_>,
     group: &Group,
@@ -643,12 +859,17 @@ fn check_rewritten<O: Write, E: Write>(
 ) -> Result<Status, Stop> {
     let mut report = *report;
     let mut status = Status::Answered;
+    let known = known_of(rt, group)?;
+    set_above(rt, &mut report.levels, group)?;
     for (place, file) in files.iter().enumerate() {
         let file = Checked {
             path: file.path.as_str(),
+            shown: file.path.as_str(),
             text: file.new.as_str(),
+            is_root: is_root(group, place),
             is_own: place < group.own,
             unmatched: group.unmatched.as_slice(),
+            known: &known,
             settings,
         };
         status = status.worse(check_text(console, &mut report, file)?);
@@ -686,10 +907,10 @@ fn check_dry<R: Input + Files + AllocGlobal, O: Write, E: Write>(
     };
     for (group, files) in groups.iter().zip(all.iter()) {
         let files = files.as_slice();
-        let found = match check_rewritten(&mut left, &report, group, files, settings) {
+        let found = match check_rewritten(rt, &mut left, &report, group, files, settings) {
             // What can't be written to standard error is left out.
             Err(Stop::Unwritten | Stop::Closed) => {
-                check_rewritten(&mut left, &silent, group, files, settings)?
+                check_rewritten(rt, &mut left, &silent, group, files, settings)?
             }
             found => found?,
         };

@@ -144,6 +144,11 @@ impl Format {
         }
     }
 
+    /// Whether findings name paths from the top of the repository.
+    pub fn is_of_repository(self) -> bool {
+        matches!(self, Format::GitHub | Format::Sarif)
+    }
+
     /// Prints what stands behind all findings.
     pub fn end<O: Write, E: Write>(self, console: &mut Console<O, E>) -> Result<(), Stop> {
         match self {
@@ -299,7 +304,12 @@ fn grammar(entry: &Entry) -> Option<Flavour> {
 fn has_text(entry: &Entry) -> bool {
     !matches!(
         entry.kind,
-        Kind::Mistake(_) | Kind::Odd(_) | Kind::Meta | Kind::Repeated
+        Kind::Mistake(_)
+            | Kind::Odd(_)
+            | Kind::Meta
+            | Kind::Repeated
+            | Kind::Setting
+            | Kind::Workspaces
     )
 }
 

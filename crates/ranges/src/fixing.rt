@@ -23,7 +23,9 @@ use terminal::console::{Console, Status, Stop};
 use terminal::entry::Entry;
 use terminal::hints::corrected;
 use terminal::manifest::entries;
-use terminal::npm::{Reading, Source, number_behind_wildcard, read_range, renamed, source_of};
+use terminal::npm::{
+    Reading, Source, number_behind_wildcard, number_behind_zero, read_range, renamed, source_of,
+};
 use terminal::sections::Kind;
 use terminal::shown::Shown;
 
@@ -259,6 +261,7 @@ fn better(
     // Deno has no version below 0.0.0, and npm has pre-releases of it.
     let is_odd = text.trim_end().ends_with("||")
         || text.contains("0.0.0-")
+        || number_behind_zero(text).is_some()
         || has_dropped_number(text);
     if is_odd || flavour == Flavour::Npm && !is_read_alike(text) {
         return Ok(None);
@@ -286,6 +289,25 @@ fn is_plain(text: &str) -> bool {
 fn set_levels(alloc: Global, levels: &mut Levels, entries: &[Entry]) -> Result<(), AllocError> {
     for entry in entries.iter().filter(|entry| entry.kind == Kind::Level) {
         let _ = levels.set(alloc, entry.name.as_str(), entry.text.as_str())?;
+    }
+    Ok(())
+}
+
+/// Sets the levels that the manifests of the workspace ask for that a given file belongs to.
+pub fn set_above<R: Files + AllocGlobal>(
+    rt: &R,
+    levels: &mut Levels,
+    group: &Group,
+) -> Result<(), Stop> {
+    for path in group.above.iter() {
+        let path = path.as_str();
+        let text = match fs::read_to_string(rt, path) {
+            Ok(text) => text,
+            Err(error) if error.kind() == ErrorKind::OutOfMemory => return Err(Stop::OutOfMemory),
+            Err(_) => continue,
+        };
+        let entries = entries(rt.alloc(), path, text.as_str())?;
+        set_levels(rt.alloc(), levels, entries.as_slice())?;
     }
     Ok(())
 }
@@ -648,6 +670,7 @@ pub fn rewrite<R: Input + Files + AllocGlobal, O: Write, E: Write>(
     let mut all = Vec::new(alloc);
     let mut shared = Levels::new();
     shared.put(Rule::NotCanonical, Level::Warning);
+    set_above(rt, &mut shared, group)?;
     for (place, path) in group.paths.iter().enumerate() {
         let path = path.as_str();
         let old = read_file(rt, console, path)?;

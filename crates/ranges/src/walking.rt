@@ -40,6 +40,8 @@ pub struct Group {
     pub own: usize,
     /// The patterns of workspaces in these that no folder matches.
     pub unmatched: Vec<String>,
+    /// The manifests of the workspace that the folder or the file belongs to. The levels that they set count, too.
+    pub above: Vec<String>,
 }
 
 impl Group {
@@ -48,6 +50,7 @@ impl Group {
             paths: Vec::new(alloc),
             own: 0,
             unmatched: Vec::new(alloc),
+            above: Vec::new(alloc),
         }
     }
 }
@@ -100,7 +103,7 @@ fn read_ignored<R: Runtime + AllocGlobal>(
 }
 
 // How many of these names lead to the nearest folder that has a `.git`, if one has.
-fn repository<R: Runtime + AllocGlobal>(rt: &R, names: &[&str]) -> io::Result<Option<usize>> {
+fn repository<R: Files + AllocGlobal>(rt: &R, names: &[&str]) -> io::Result<Option<usize>> {
     for count in (0..=names.len()).rev() {
         let folder = path_of(rt.alloc(), names.get(..count).unwrap_or(&[]))?;
         let git = format!(in rt.alloc(); "{folder}/.git")?;
@@ -119,6 +122,27 @@ fn path_of(alloc: Global, names: &[&str]) -> Result<String, AllocError> {
         path.push_str(name)?;
     }
     Ok(path)
+}
+
+/// The path of a file from the top of the git repository that holds it; the same path if none does.
+pub fn path_in_repository<R: Files + AllocGlobal>(rt: &R, path: &str) -> io::Result<String> {
+    let alloc = rt.alloc();
+    if path == "-" {
+        return Ok(String::from_str(alloc, path)?);
+    }
+    let (folder, name) = split_path(path);
+    let real = match fs::canonicalize(rt, shown_folder(folder)) {
+        Ok(real) => real,
+        Err(error) if error.kind() == ErrorKind::OutOfMemory => return Err(error),
+        Err(_) => return Ok(String::from_str(alloc, path)?),
+    };
+    let names = names_of(alloc, real.as_str())?;
+    let Some(top) = repository(rt, names.as_slice())? else {
+        return Ok(String::from_str(alloc, path)?);
+    };
+    let below = path_of(alloc, names.get(top..).unwrap_or(&[]))?;
+    let whole = format!(in alloc; "{below}/{name}")?;
+    Ok(String::from_str(alloc, whole.as_str().trim_start_matches('/'))?)
 }
 
 // The value of core.excludesFile in a file of git's settings.
@@ -417,16 +441,77 @@ fn add_workspaces<R: Runtime + AllocGlobal, O: Write, E: Write>(
     let mut status = Status::Answered;
     let entries = entries(alloc, path, text.as_str())?;
     for entry in entries.iter().filter(|entry| entry.kind == Kind::Workspace) {
-        match Workspace::new(alloc, entry.text.as_str())? {
-            Some(workspace) => workspaces.push(workspace)?,
-            None => {
-                let subject = format_args!("{}: {}", Shown(path), Quoted(entry.text.as_str()));
-                let message = "its braces stand for more than 1000 patterns";
-                status = status.worse(console.complain(subject, message));
-            }
-        }
+        let pattern = entry.text.as_str();
+        let is_extended = is_extended(pattern);
+        let workspace = if is_extended {
+            None
+        } else {
+            Workspace::new(alloc, pattern)?
+        };
+        let Some(workspace) = workspace else {
+            let message = if is_extended {
+                "a pattern with `!(`, `?(`, `*(`, `+(` or `@(` isn't read: write one for each folder"
+            } else {
+                "its braces stand for more than 1000 patterns"
+            };
+            let subject = format_args!("{}: {}", Shown(path), Quoted(pattern));
+            status = status.worse(console.complain(subject, message));
+            continue;
+        };
+        workspaces.push(workspace)?;
     }
     Ok(status)
+}
+
+// Whether a pattern has lists of patterns in parentheses, of which npm takes one, none, several or all others.
+fn is_extended(pattern: &str) -> bool {
+    let pattern = pattern.trim_start_matches('!');
+    ["!(", "?(", "*(", "+(", "@("]
+        .iter()
+        .any(|sign| pattern.contains(*sign))
+}
+
+// The manifests in a folder.
+fn manifests_at<R: Files + AllocGlobal>(rt: &R, folder: &str) -> Result<Vec<String>, AllocError> {
+    let mut found = Vec::new(rt.alloc());
+    for name in &NAMES {
+        let path = format!(in rt.alloc(); "{folder}/{name}")?;
+        if fs::exists(rt, path.as_str()).unwrap_or(false) {
+            found.push(path)?;
+        }
+    }
+    Ok(found)
+}
+
+// The manifests of the workspace that a folder belongs to: those of the nearest folder above whose patterns match it.
+fn manifests_above<R: Runtime + AllocGlobal, O: Write, E: Write>(
+    rt: &R,
+    console: &mut Console<O, E>,
+    folder: &str,
+) -> Result<Vec<String>, Stop> {
+    let alloc = console.alloc;
+    let real = match fs::canonicalize(rt, shown_folder(folder)) {
+        Ok(real) => real,
+        Err(error) if error.kind() == ErrorKind::OutOfMemory => return Err(Stop::OutOfMemory),
+        Err(_) => return Ok(Vec::new(alloc)),
+    };
+    let names = names_of(alloc, real.as_str())?;
+    for count in (0..names.len()).rev() {
+        let (front, behind) = names
+            .as_slice()
+            .split_at_checked(count)
+            .unwrap_or((&[], &[]));
+        let manifests = manifests_at(rt, path_of(alloc, front)?.as_str())?;
+        let mut workspaces = Vec::new(alloc);
+        for manifest in manifests.iter() {
+            let _ = add_workspaces(rt, console, manifest.as_str(), &mut workspaces)?;
+        }
+        let below = path_of(alloc, behind)?;
+        if is_workspace(alloc, workspaces.as_mut_slice(), below.as_str())? {
+            return Ok(manifests);
+        }
+    }
+    Ok(Vec::new(alloc))
 }
 
 // Adds the manifests of the workspaces below this folder.
@@ -626,7 +711,8 @@ pub fn find<R: Runtime + AllocGlobal, O: Write, E: Write>(
     };
     if files.is_none() {
         let mut status = Status::Answered;
-        let found = manifests_here(rt, console, excludes, &mut status)?;
+        let mut found = manifests_here(rt, console, excludes, &mut status)?;
+        found.above = manifests_above(rt, console, "")?;
         all.status = with_something(console, ".", &found, status);
         all.groups.push(found)?;
     }
@@ -642,8 +728,13 @@ pub fn find<R: Runtime + AllocGlobal, O: Write, E: Write>(
             found = manifests_in(rt, console, file, excluded(alloc, excludes)?, &mut status)?;
             let status = with_something(console, file, &found, status);
             all.status = all.status.worse(status);
+            found.above = manifests_above(rt, console, file)?;
         } else {
             found.paths.push(String::from_str(alloc, file)?)?;
+            let (folder, name) = split_path(file);
+            if NAMES.contains(&name) {
+                found.above = manifests_above(rt, console, folder)?;
+            }
         }
         all.groups.push(found)?;
     }

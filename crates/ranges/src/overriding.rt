@@ -1,0 +1,160 @@
+//! What npm makes of the overrides of a manifest.
+
+use answers::asking::Problem;
+use answers::reading;
+use deno_semver::VersionReq;
+use semver_req::common::values::Flavour;
+use std::alloc::{AllocError, Global};
+use std::collections::{HashMap, HashSet};
+use terminal::entry::Entry;
+use terminal::npm::{Reading, Source, name_and_range, read_range, source_of};
+use terminal::sections::Kind;
+
+// The sections of dependencies. Of a package in several of them npm takes the last one.
+const SECTIONS: [&str; 4] = [
+    "peerDependencies",
+    "dependencies",
+    "optionalDependencies",
+    "devDependencies",
+];
+
+/// The overrides of a manifest, and what they refer to.
+#[derive(Drop)]
+pub struct Overrides<'e> {
+    /// What the manifest itself asks for, by the names of packages.
+    direct: HashMap<&'e str, &'e Entry>,
+    /// What stands for a package, by the key that names it.
+    values: HashMap<&'e str, &'e Entry>,
+    /// The packages that a key before counts for.
+    taken: HashSet<&'e str>,
+}
+
+// The key of overrides that a text stands for at the top of them.
+fn key_of(entry: &Entry) -> Option<&str> {
+    if entry.kind != Kind::Dependency || entry.section != "overrides" {
+        return None;
+    }
+    let name = entry.name.as_str();
+    match entry.depth {
+        1 => Some(name),
+        2 if name == "." => Some(entry.object.as_str()),
+        _ => None,
+    }
+}
+
+// The range or the tag that a text is; none if it is neither.
+fn read(alloc: Global, text: &str) -> Result<Option<VersionReq>, AllocError> {
+    match reading::range(alloc, Flavour::Npm, 0, text) {
+        Ok(range) => Ok(Some(range)),
+        Err(Problem::Invalid(_)) => Ok(None),
+        Err(Problem::OutOfMemory) => Err(AllocError),
+    }
+}
+
+// Whether two ranges overlap, by their bounds.
+fn overlap(alloc: Global, one: &str, other: &str) -> Result<bool, AllocError> {
+    let Some(one) = read(alloc, one)? else {
+        return Ok(false);
+    };
+    let Some(other) = read(alloc, other)? else {
+        return Ok(false);
+    };
+    Ok(one.intersects(&other))
+}
+
+// Whether a key with this range counts for a dependency with this text.
+fn counts(alloc: Global, range: &str, text: &str) -> Result<bool, AllocError> {
+    if matches!(range, "" | "*") {
+        return Ok(true);
+    }
+    let Source::Registry(asked) = source_of(text) else {
+        return Ok(text.starts_with("file:") || text.starts_with(['.', '/'].as_slice()));
+    };
+    match read_range(asked).reading {
+        Reading::Tag => Ok(true),
+        Reading::Range => overlap(alloc, range, asked),
+        Reading::TooLarge | Reading::Refused => Ok(false),
+    }
+}
+
+impl<'e> Overrides<'e> {
+    /// The overrides among the entries of a manifest.
+    pub fn of(alloc: Global, entries: &'e [Entry]) -> Result<Overrides<'e>, AllocError> {
+        let mut all = Overrides {
+            direct: HashMap::new(alloc),
+            values: HashMap::new(alloc),
+            taken: HashSet::new(alloc),
+        };
+        if !entries
+            .iter()
+            .any(|entry| matches!(entry.kind, Kind::Override(_)))
+        {
+            return Ok(all);
+        }
+        for section in &SECTIONS {
+            for entry in entries.iter().filter(|entry| entry.section == *section) {
+                let _ = all.direct.insert(entry.name.as_str(), entry)?;
+            }
+        }
+        for entry in entries {
+            if let Some(key) = key_of(entry) {
+                let _ = all.values.insert(key, entry)?;
+            }
+        }
+        Ok(all)
+    }
+
+    /// The name that a text refers to, if the manifest asks for no such package.
+    pub fn missing<'t>(&self, text: &'t str) -> Option<&'t str> {
+        let name = text.strip_prefix('$')?;
+        match self.direct.get(name) {
+            Some(entry) if !entry.text.is_empty() => None,
+            _ => Some(name),
+        }
+    }
+
+    // What a text stands for, which may refer to a dependency.
+    fn meant<'t>(&'t self, text: &'t str) -> Option<&'t str> {
+        let Some(name) = text.strip_prefix('$') else {
+            return Some(text);
+        };
+        match self.direct.get(name) {
+            Some(entry) => Some(entry.text.as_str()),
+            None => None,
+        }
+    }
+
+    /// What the manifest itself asks for, if this key asks for something else in its place, which npm refuses.
+    pub fn conflict(
+        &mut self,
+        alloc: Global,
+        entry: &'e Entry,
+    ) -> Result<Option<&'e Entry>, AllocError> {
+        let key = entry.text.as_str();
+        let (name, range) = name_and_range(key);
+        let direct = match self.direct.get(name) {
+            Some(direct) if !self.taken.contains(name) => *direct,
+            _ => return Ok(None),
+        };
+        let asked = direct.text.as_str();
+        if !counts(alloc, range, asked)? {
+            return Ok(None);
+        }
+        let _ = self.taken.insert(name)?;
+        let value = match self.values.get(key) {
+            Some(value) => value.text.as_str(),
+            // npm takes the range of the key.
+            None => range,
+        };
+        let Some(value) = self.meant(value) else {
+            return Ok(None);
+        };
+        let is_same = matches!(value, "" | "*") || value == asked;
+        // npm asks again with the value, and takes the override back if the key doesn't count for that.
+        Ok(if is_same || !counts(alloc, range, value)? {
+            None
+        } else {
+            Some(direct)
+        })
+    }
+}
