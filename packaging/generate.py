@@ -74,6 +74,15 @@ class Command:
     def takes_files(self):
         return any(term.startswith(("<FILE", "[FILE")) for term, _ in self.arguments)
 
+    def takes_folder(self):
+        return any(term.startswith(("<FOLDER", "[FOLDER")) for term, _ in self.arguments)
+
+    def words(self):
+        """What the first argument may be, if it is one of several words."""
+        first = self.arguments[0][1] if self.arguments else ""
+        found = re.search(r"\[possible values: ([^]]*)\]", first)
+        return found.group(1).split(", ") if found else []
+
 
 def help_of(*arguments):
     return subprocess.run([PROGRAM, *arguments, "--help"], capture_output=True, text=True, check=True).stdout
@@ -107,8 +116,8 @@ def command(name, description):
 
 
 def rules():
-    """The names of the rules."""
-    return re.findall(r"^### ([a-z-]+)$", PAGE.read_text(), re.M)
+    """The rules, each with what the page says of it."""
+    return dict(re.findall(r"^### ([a-z-]+)\n\n((?:.+\n)+)", PAGE.read_text(), re.M))
 
 
 def statuses():
@@ -142,6 +151,10 @@ def manual(description, commands):
         only = "" if len(having) == len(commands) else f" Only for {', '.join(one for one, _ in having)}."
         names = f"-{found.short}, --{name}" if found.short else f"--{name}"
         lines += [".TP", bold(names) + (f" \\fI{found.value}\\fR" if found.value else ""), roff(f"{found.help}{choices}.{only}")]
+    lines += [".SH RULES", roff("--rule NAME=LEVEL sets one of these to off, warn or error, and so does the section ranges of a manifest."), ".nf"]
+    lines += [".in +4", roff('{"ranges": {"rules": {"any-zero": "off", "no-match": "error"}}}'), ".in", ".fi"]
+    for name, text in rules().items():
+        lines += [".TP", bold(name), roff(" ".join(re.sub(r"\[(\w+)\]\([^)]*\)", r"\1", text).split()))]
     lines.append(".SH EXIT STATUS")
     for status, meaning in statuses():
         lines += [".TP", bold(status), roff(meaning) + "."]
@@ -158,6 +171,12 @@ def bash(commands):
 
     cases = [f'        {"|".join(each.names())}) options="{names_of(each)}" ;;' for each in commands]
     with_files = "|".join(name for each in commands if each.takes_files() for name in each.names())
+    with_folder = "|".join(name for each in commands if each.takes_folder() for name in each.names())
+    words = [
+        f'        {"|".join(each.names())}) case $before in {"|".join(each.words())}) ;; *) COMPREPLY=($(compgen -W "{" ".join(each.words())}" -- "$word")) ;; esac ;;'
+        for each in commands
+        if each.words()
+    ]
     having = {one.name: one for each in commands for one in each.options if one.choices}.values()
     values = [f'        {"|".join(it.names())}) COMPREPLY=($(compgen -W "{" ".join(it.choices)}" -- "$word")); return ;;' for it in having]
     names = " ".join(name for each in commands for name in each.names())
@@ -181,6 +200,10 @@ def bash(commands):
         f"    case ${{COMP_WORDS[1]}} in {with_files})",
         "        compopt -o filenames 2>/dev/null",
         '        mapfile -t COMPREPLY < <(compgen -f -- "$word") ;;',
+        f"        {with_folder})",
+        "        compopt -o filenames 2>/dev/null",
+        '        mapfile -t COMPREPLY < <(compgen -d -- "$word") ;;',
+        *words,
         "    esac",
         "}",
         "complete -o default -F _ranges ranges",
@@ -204,7 +227,10 @@ def zsh(commands):
             star = "*" if one.name in REPEATED else ""
             names = f"'(-{one.short} --{one.name})'{{{short},{long}}}'" if one.short else f"'{star}{long}"
             lines.append(f"        {names}[{quoted(one.help)}]{value}' \\")
-        lines.append("        '*:file:_files' ;;" if each.takes_files() else "        '*:argument:' ;;")
+        if each.words():
+            lines += ["        '1: :' \\", f"        '2:{each.arguments[0][0].strip('<>[]')}:({' '.join(each.words())})' \\"]
+        kind = "file:_files" if each.takes_files() else "folder:_files -/" if each.takes_folder() else "argument:"
+        lines.append(f"        '*:{kind}' ;;")
     return "\n".join([*lines, "esac", ""])
 
 
@@ -223,6 +249,12 @@ def fish(commands):
             lines.append(f"complete -c ranges -n {seen}{short} -l {one.name}{value} -d {quoted(one.help)}")
         if each.takes_files():
             lines.append(f"complete -c ranges -n {seen} -F")
+        if each.takes_folder():
+            lines.append(f"complete -c ranges -n {seen} -a '(__fish_complete_directories)'")
+        if each.words():
+            words = " ".join(each.words())
+            first = f"{seen[1:-1]}; and not __fish_seen_subcommand_from {words}"
+            lines.append(f"complete -c ranges -n {quoted(first)} -a {quoted(words)}")
     return "\n".join([*lines, ""])
 
 

@@ -178,6 +178,8 @@ install_and_remove() {
     expect explain bash -c ". '$completion'; COMP_WORDS=(ranges ex); COMP_CWORD=1; _ranges; echo \${COMPREPLY[@]}"
     expect any-zero= bash -c ". '$completion'; COMP_WORDS=(ranges check --rule any); COMP_CWORD=3; _ranges; echo \${COMPREPLY[@]}"
     expect off bash -c ". '$completion'; COMP_WORDS=(ranges check --rule any-zero = o); COMP_CWORD=5; _ranges; echo \${COMPREPLY[@]}"
+    expect minor bash -c ". '$completion'; COMP_WORDS=(ranges increment mi); COMP_CWORD=2; _ranges; echo \${COMPREPLY[@]}"
+    expect /etc bash -c ". '$completion'; COMP_WORDS=(ranges asked /et); COMP_CWORD=2; _ranges; echo \${COMPREPLY[@]}"
     if nm -D --defined-only "$here/lib64/libdeno_semver.so.0" | grep -v ' semver_\| DENO_SEMVER_0'; then
         fail 'the shared library exports more than semver.h'
     fi

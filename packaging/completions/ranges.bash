@@ -40,6 +40,10 @@ _ranges() {
     case ${COMP_WORDS[1]} in check)
         compopt -o filenames 2>/dev/null
         mapfile -t COMPREPLY < <(compgen -f -- "$word") ;;
+        asked)
+        compopt -o filenames 2>/dev/null
+        mapfile -t COMPREPLY < <(compgen -d -- "$word") ;;
+        increment) case $before in major|minor|patch|premajor|preminor|prepatch|prerelease|release) ;; *) COMPREPLY=($(compgen -W "major minor patch premajor preminor prepatch prerelease release" -- "$word")) ;; esac ;;
     esac
 }
 complete -o default -F _ranges ranges
