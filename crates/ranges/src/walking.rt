@@ -486,7 +486,7 @@ fn manifests_at<R: Files + AllocGlobal>(rt: &R, folder: &str) -> Result<Vec<Stri
 // The manifests of the workspace that a folder belongs to: those of the nearest folder above whose patterns match it.
 fn manifests_above<R: Runtime + AllocGlobal, O: Write, E: Write>(
     rt: &R,
-    console: &mut Console<O, E>,
+    console: &Console<O, E>,
     folder: &str,
 ) -> Result<Vec<String>, Stop> {
     let alloc = console.alloc;
@@ -496,6 +496,9 @@ fn manifests_above<R: Runtime + AllocGlobal, O: Write, E: Write>(
         Err(_) => return Ok(Vec::new(alloc)),
     };
     let names = names_of(alloc, real.as_str())?;
+    // Who checks that folder is told which patterns aren't read.
+    let (out, err) = (io::sink(), io::sink());
+    let mut silent = Console::new(alloc, out, err, console.terminal, console.options);
     for count in (0..names.len()).rev() {
         let (front, behind) = names
             .as_slice()
@@ -504,7 +507,7 @@ fn manifests_above<R: Runtime + AllocGlobal, O: Write, E: Write>(
         let manifests = manifests_at(rt, path_of(alloc, front)?.as_str())?;
         let mut workspaces = Vec::new(alloc);
         for manifest in manifests.iter() {
-            let _ = add_workspaces(rt, console, manifest.as_str(), &mut workspaces)?;
+            let _ = add_workspaces(rt, &mut silent, manifest.as_str(), &mut workspaces)?;
         }
         let below = path_of(alloc, behind)?;
         if is_workspace(alloc, workspaces.as_mut_slice(), below.as_str())? {
