@@ -153,7 +153,8 @@ MANIFEST = b'{"dependencies": {"a": "^1.2 || ^1", "b": ">=1.2<2", "c": "npm:d@^1
 ODD = (
     b'{"ranges": {"rules": {"not-canonical": "warn", "no-such": "off"}}, "version": "1", "packageManager": "npm", "workspaces": ["p/*"], '
     b'"dependencies": {"a": "^1 or ^2", "b": "1.x.3 || latest", "c": "^0", "a": "1, 2", "d": "~~1", "e": "^7.0.0-0", "f": "1.2/3/4", "g": "npm:a/b"}, '
-    b'"peerDependencies": {"a": "^3", "c": "2"}, "peerDependenciesMeta": {"h": {"optional": true}}, "overrides": {"i": {"j": "1 || 1,2"}}}'
+    b'"peerDependencies": {"a": "^3", "c": "2"}, "peerDependenciesMeta": {"h": {"optional": true}}, "overrides": {"i": {"j": "1 || 1,2"}, '
+    b'"k@>": "$l", "a@^1": "1.5"}, "resolutions": {"a/b@npm:1 <": "2"}, "name": "o", "devDependencies": {"o": "workspace:^9", "n": "catalog:"}}'
 )
 WORKSPACE = b"packages:\n  - 'p/*'\ncatalog:\n  \"a\": '^0'\ncatalogs:\n  b:\n    c: >=1\n    k: ^1\n"
 VERSIONS = b"1.2.3-rc\n2.1.0\n1.x\n\"2.\\u0030.0\"\n"
@@ -188,6 +189,7 @@ def ranges_commands(folder):
     yield ["scans", "--where", "key,pre", "^1.2.3-beta || 3"], b""
     yield from ((["filter", "-q", "*"], b'["1.0.0", "2.0.0-a"]'), (["best", "--tags", "*", "--range", "1"], b"refs/tags/v1.0.0\n"))
     yield from ((["min", "-"], b'"^1.2"'), (["overlap", "-", "^1"], b">=1.2\n"), (["filter", "-", "1.0.0"], b"^1"))
+    yield from ((["check", "--github", f"{folder}/p/a/package.json"], b""), (["canonical", "-"], b"1\n1 2 <\n"))
     yield from ((["check", "--github", "-"], MANIFEST), (["--help"], b""), (["frobnicate"], b""), (["check", "none.json"], b""))
     yield from ((["check", "-"], b"{"), (["check", "-"], b"[]"), (["filter", "*"], b"{}"), (["check", "--rule", "none=off"], b""))
 
