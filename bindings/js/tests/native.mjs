@@ -9,7 +9,7 @@ import { execFileSync } from 'node:child_process';
 import { mkdtempSync, rmSync, writeFileSync } from 'node:fs';
 import { tmpdir } from 'node:os';
 import { join } from 'node:path';
-import { view, wasm } from '../out/package/calls.js';
+import { currentInstance, view, wasm } from '../out/package/calls.js';
 import { Texts } from './random.mjs';
 
 const [program, count = '100000', seed = '1'] = process.argv.slice(2);
@@ -165,6 +165,7 @@ const questions = Array.from({ length: Number(count) }, makeQuestion);
 const folder = mkdtempSync(join(tmpdir(), 'semver-'));
 const file = join(folder, 'questions');
 writeFileSync(file, Buffer.concat(questions.map(encode)));
+currentInstance(); // makes the instance, which the first call would make
 const before = wasm.heap_blocks();
 const answers = questions.map(ask);
 const native = execFileSync(program, [file], { maxBuffer: 2 ** 30 });
