@@ -4,7 +4,9 @@ use crate::advice::{bound_of_pre_releases, warnings};
 use crate::errors::{errors_at_end, errors_of};
 use crate::explaining::has_left_out;
 use crate::findings::{Cause, Finding, Format, Position, Report};
-use crate::fixing::{Rewritten, apply, print_diffs, rewrite, set_above, write_all};
+use crate::fixing::{
+    Rewritten, apply, is_tag, pieces_of, print_diffs, rewrite, set_above, write_all,
+};
 use crate::known::{Known, known_of};
 use crate::overriding::Overrides;
 use crate::rules::{Levels, Rule};
@@ -354,13 +356,11 @@ fn check_specifier<O: Write, E: Write>(
 }
 
 // Whether a range behind the name in a key of overrides is one: npm reads it strictly, and has no tags there.
-fn is_range_of_key(alloc: Global, range: &str, is_of_npm: bool) -> Result<bool, AllocError> {
-    let is_range = match explain(alloc, Flavour::Npm, PreRelease::Restricted, range) {
-        Ok(Explanation::Ranges { pieces, .. }) => !has_left_out(pieces.as_slice()),
-        Ok(Explanation::Tag(_)) => return Ok(!is_of_npm),
-        Err(Problem::Invalid(_)) => false,
-        Err(Problem::OutOfMemory) => return Err(AllocError),
+fn is_range_of_key(alloc: Global, range: &str, is_of_npm: bool) -> Result<bool, Stop> {
+    let Some(pieces) = pieces_of(alloc, Flavour::Npm, range)? else {
+        return Ok(!is_of_npm && is_tag(alloc, Flavour::Npm, range)?);
     };
+    let is_range = !has_left_out(pieces.as_slice());
     let read = npm::read_range(range);
     let is_alike = read.reading == Reading::Range && read.ignored.is_none();
     Ok(is_range && is_alike && read.dropped.is_none() && number_behind_zero(range).is_none())

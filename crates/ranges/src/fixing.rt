@@ -135,8 +135,8 @@ fn joined(alloc: Global, pieces: &[Piece], levels: &Levels) -> Result<String, Al
     Ok(kept)
 }
 
-// The alternatives of a range, if each of them is one.
-fn pieces_of(alloc: Global, flavour: Flavour, range: &str) -> Result<Option<Vec<Piece>>, Stop> {
+/// The alternatives of a range, of which some may be left out; none of a tag.
+pub fn pieces_of(alloc: Global, flavour: Flavour, range: &str) -> Result<Option<Vec<Piece>>, Stop> {
     match explain(alloc, flavour, PreRelease::Restricted, range) {
         Ok(Explanation::Ranges { pieces, .. }) => Ok(Some(pieces)),
         Ok(Explanation::Tag(_)) | Err(Problem::Invalid(_)) => Ok(None),
@@ -225,8 +225,8 @@ fn without_mistakes(
     Ok(None)
 }
 
-// Whether a text is a tag in this grammar.
-fn is_tag(alloc: Global, flavour: Flavour, text: &str) -> Result<bool, Stop> {
+/// Whether a text is a tag in this grammar.
+pub fn is_tag(alloc: Global, flavour: Flavour, text: &str) -> Result<bool, Stop> {
     match reading::range(alloc, flavour, 0, text) {
         Ok(range) => Ok(range.tag().is_some()),
         Err(Problem::Invalid(_)) => Ok(false),
