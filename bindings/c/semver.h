@@ -13,14 +13,13 @@
  * the version matches. A call checks `const` handles first, then the grammar's number, then whether each string is UTF-8, then each
  * string from the left; the first that is invalid decides.
  *
- * A call writes its string to the start of `out` if it fits, and leaves the rest; if it doesn't fit, `out` stays as it was. The length
- * is stored in `*needed` either way, 0 if there is no string. If the code is SEMVER_INVALID_RANGE or below, the string is an error
- * message. If you want no string, pass a buffer of length 0.
+ * A call writes its string to the start of `out` if it fits, and leaves the rest of `out`; if it doesn't fit, `out` stays as it was.
+ * Either way the call stores the length in `*needed`, and 0 if there is no string. If the code is SEMVER_INVALID_RANGE or below, the
+ * string is an error message. If you want no string, pass a buffer of length 0.
  *
  * Some calls take several arguments of one kind. With SEMVER_INVALID_RANGE or SEMVER_INVALID_VERSION they store in `*place` which one is
  * invalid, counted from 0: the first or the second of two, or the line of a list. With any other code `*place` stays as it was, unless
- * said otherwise. A line ends at "\n" or "\r\n". After the last of these there is no further, empty line, and an empty string has no
- * line. */
+ * said otherwise. A line ends at "\n" or "\r\n". No empty line follows the last line end, and an empty string has no line. */
 #ifndef SEMVER_H
 #define SEMVER_H
 
@@ -96,14 +95,14 @@ int32_t semver_below(uint32_t grammar, const char *range, size_t range_len,
                      char *out, size_t out_len, size_t *needed);
 
 /* Which versions of a list, one per line, match the range: YES or TAG. With YES `answers[n]` is NO, YES or INVALID_VERSION for line n,
- * and `*needed` is the number of lines; else it is 0. If there are more lines than `answers_len`, or with any code but YES, `answers`
- * stays as it was. */
+ * counted from 0, and `*needed` is the number of lines. With any other code `*needed` is 0. If there are more lines than `answers_len`,
+ * or with any other code, `answers` stays as it was. */
 int32_t semver_filter(uint32_t grammar, const char *range, size_t range_len,
                       const char *versions, size_t versions_len, uint32_t pre_releases,
                       int8_t *answers, size_t answers_len, size_t *needed);
 
 /* The highest of several versions, one per line, that matches the range, the first of equal ones: YES, and `*place` is its line, counted
- * from 0; NO, if none matches; or TAG. With INVALID_VERSION `*place` is the line, with INVALID_RANGE 0. */
+ * from 0; NO, if none matches; or TAG. With INVALID_VERSION `*place` is that version's line, and with INVALID_RANGE it is 0. */
 int32_t semver_best(uint32_t grammar, const char *range, size_t range_len,
                     const char *versions, size_t versions_len, uint32_t pre_releases, size_t *place);
 
@@ -117,16 +116,16 @@ int32_t semver_lowest(uint32_t grammar, const char *range, size_t range_len,
 int32_t semver_sort(const char *versions, size_t versions_len, size_t *places, size_t places_len, size_t *needed,
                     size_t *place);
 
-/* The order of two versions, builds aside: BEFORE, if the first comes before the other, SAME or AFTER. */
+/* The order of two versions, builds aside: BEFORE (the first comes before the other), SAME or AFTER. */
 int32_t semver_compare(const char *one, size_t one_len, const char *other, size_t other_len, size_t *place);
 
-/* The next version of a kind, without a build: YES. It is the next release, or the first pre-release of it, which has your identifiers,
- * separated by ".", and then the number of `base`. SEMVER_PATCH of 1.2.3-rc.1 is its own release, 1.2.3. SEMVER_MINOR and SEMVER_MAJOR
- * of a pre-release also give its own release, if the numbers after the minor or the major one are 0. SEMVER_PRERELEASE raises the last
- * number of a pre-release that begins with your identifiers and goes on with a number. If you give no identifiers, it raises the last
- * number of any pre-release. A pre-release with other identifiers gets yours, and so may come before the version. The code is
- * NO_INCREMENT if a number would exceed 18446744073709551615, if you ask for the SEMVER_RELEASE of a release, or if the new pre-release
- * would be empty or the same as the old one. */
+/* The next version of a kind, without a build: YES. It is the next release, or the first pre-release of the next release. Such a
+ * pre-release has your identifiers, separated by ".", and then the number of `base`. SEMVER_PATCH of 1.2.3-rc.1 is its own release,
+ * 1.2.3. SEMVER_MINOR also gives a pre-release's own release if the patch is 0, and SEMVER_MAJOR if the minor and the patch are 0.
+ * SEMVER_PRERELEASE raises the last number of a pre-release that begins with your identifiers and goes on with a number. If you give no
+ * identifiers, it raises the last number of any pre-release. A pre-release with other identifiers gets yours, so the result may come
+ * before the version that you passed. The code is NO_INCREMENT if a number would exceed 18446744073709551615, if you ask for the
+ * SEMVER_RELEASE of a release, or if the new pre-release would be empty, invalid or the same as the old one. */
 int32_t semver_increment(uint32_t release_type, const char *version, size_t version_len,
                          const char *identifiers, size_t identifiers_len, uint32_t base,
                          char *out, size_t out_len, size_t *needed);
@@ -146,8 +145,8 @@ int32_t semver_difference(const char *one, size_t one_len, const char *other, si
 int32_t semver_intersects(uint32_t grammar, const char *one, size_t one_len, const char *other, size_t other_len,
                           size_t *place);
 
-/* Whether the other range matches each version that the first one matches: YES; NO, with the lowest version that it doesn't match; or
- * TAG. */
+/* Whether the other range matches each version that the first one matches: YES; NO, with the lowest version that only the first one
+ * matches; or TAG. */
 int32_t semver_within(uint32_t grammar, const char *one, size_t one_len, const char *other, size_t other_len,
                       uint32_t pre_releases, char *out, size_t out_len, size_t *needed, size_t *place);
 
@@ -182,31 +181,31 @@ int32_t semver_version(const char *version, size_t version_len, char *out, size_
 int32_t semver_key(const char *version, size_t version_len, char *out, size_t out_len, size_t *needed);
 
 /* The three numbers of a version: YES, if it has neither a pre-release nor a build, or NO, if it has either. With YES and with NO
- * `*needed` is 3, else 0. If `numbers_len` is less than 3, or with any other code, `numbers` stays as it was. */
+ * `*needed` is 3, and with any other code 0. If `numbers_len` is less than 3, or with any other code, `numbers` stays as it was. */
 int32_t semver_version_numbers(const char *version, size_t version_len, uint64_t *numbers, size_t numbers_len, size_t *needed);
 
 /* Whether the string may be a tag, by npm's rules: NO or YES. */
 int32_t semver_may_be_tag(const char *text, size_t text_len);
 
-/* The alternatives of a range in their order, as JSON: YES or TAG. Each has the members "end" and "start", its bounds: null, or an
- * object with "inclusive", whether the version itself lies within, and "version". */
+/* The alternatives of a range in their order, as JSON: YES or TAG. Each has the members "end" and "start", its bounds. A bound is null,
+ * or an object with "inclusive" (whether the version itself lies within) and "version". */
 int32_t semver_ranges(uint32_t grammar, const char *range, size_t range_len, char *out, size_t out_len, size_t *needed);
 
-/* What a range means, as JSON: YES or TAG. The members are "alternatives", in their order, and "normal", the canonical form. An
- * alternative has "text", without the whitespace around it. If it is invalid, and so left out, it has "error", as of semver_errors. Else
- * it has "end" and "start", as of semver_ranges, "lowest", the lowest version that it matches or null, and "pre-releases", an array of
- * the three numbers whose pre-releases match, or "all". */
+/* What a range means, as JSON: YES or TAG. The members are "alternatives" (in their order) and "normal" (the canonical form). An
+ * alternative has "text", without the whitespace around it. If it is invalid, and so left out, it has "error" (as from semver_errors).
+ * Else it has "end" and "start" (as from semver_ranges), "lowest" (the lowest version that it matches, or null), and "pre-releases" (an
+ * array of the three numbers whose pre-releases match, or "all"). */
 int32_t semver_explain(uint32_t grammar, const char *range, size_t range_len, uint32_t pre_releases,
                        char *out, size_t out_len, size_t *needed);
 
-/* What is wrong with a range, as JSON: YES, with an array of its invalid alternatives in their order. Each has "message", "start", the
- * index of the byte at which it goes wrong, "end", where it ends, and "expected", what could stand at "start": "digit", "letter",
- * "whitespace", "end", or a string such as ".". A tag is an invalid alternative, too. In the strict grammar the whole string is one
+/* What is wrong with a range, as JSON: YES, with an array of its invalid alternatives in their order. Each has "message", "start" (the
+ * index of the byte at which it goes wrong), "end" (where it ends), and "expected" (what could stand at "start": "digit", "letter",
+ * "whitespace", "end", or a string such as "."). A tag is an invalid alternative, too. In the strict grammar the whole string is one
  * alternative. */
 int32_t semver_errors(uint32_t grammar, const char *range, size_t range_len, char *out, size_t out_len, size_t *needed);
 
-/* Where a string stops being a version: YES, and `*place` is the index of the first byte with which no version can begin like this. If
- * the string is a version, or could become one if it went on, `*place` is its length. */
+/* Where a string stops being a version: YES, and `*place` is the index of the first wrong byte: no version begins with the bytes up to
+ * and including it. If the string is a version, or could become one if it went on, `*place` is its length. */
 int32_t semver_version_error(const char *version, size_t version_len, size_t *place);
 
 /* The parts of a version, as JSON: YES. "major", "minor" and "patch" are strings, and "build" and "pre" are arrays of strings. */
@@ -214,13 +213,14 @@ int32_t semver_version_parts(const char *version, size_t version_len, char *out,
 
 /* ---- packages, from strings: JSON without whitespace between its parts, with the members in the order given here */
 
-/* The parts of a package with a range, such as @scope/name@^1.2: YES. The members are "name", without its scope, "normal", the canonical
- * form of the range, "requirement", the string it was parsed from, and "scope", without its @ or null. The grammar is that of the range. */
+/* The parts of a package with a range, such as @scope/name@^1.2: YES. The members are "name" (without its scope), "normal" (the
+ * canonical form of the range), "requirement" (the string that the range was parsed from), and "scope" (without its @, or null). The
+ * grammar is that of the range. */
 int32_t semver_package(uint32_t grammar, const char *text, size_t text_len, char *out, size_t out_len, size_t *needed);
 
 /* Why a package (SEMVER_PACKAGE) or a reference (SEMVER_REFERENCE) is invalid: YES; or NO, if it is valid. The members are "kind",
- * "message", the error message of semver_package or semver_reference, "snippet", the part of the string that is wrong or null, and
- * "suggested", a string to write instead or null. The kinds are "NoPackageName", "InvalidPackageName", "MissingAtSymbol",
+ * "message" (the error message of semver_package or semver_reference), "snippet" (the part of the string that is wrong, or null), and
+ * "suggested" (a string to write instead, or null). The kinds are "NoPackageName", "InvalidPackageName", "MissingAtSymbol",
  * "SpecifierVersionReq", "NpmVersionReq" and "NormalizedVersionReq"; for a reference also "NotExpectedScheme" and
  * "InvalidPathWithVersion", which alone has a suggested string. The grammar is that of a package's range; a reference's range has the
  * strict grammar, whichever you pass. */
@@ -233,21 +233,21 @@ int32_t semver_reference(const char *text, size_t text_len, char *out, size_t ou
 /* What is wrong with a package or a reference, as JSON: YES, with an array. If no part of the string is missing, it is an array as from
  * semver_errors, with indexes into the whole string. If a part is missing, the array has one error: "end" is the string's length,
  * "message" that of semver_package or semver_reference, and "expected" has what is missing at "start": "@", "/", "name", or "jsr:" and
- * "npm:". It is empty for a path that isn't allowed, and for a version in the path. */
+ * "npm:". For a path that isn't allowed, and for a version in the path, "expected" is empty. */
 int32_t semver_package_errors(uint32_t grammar, const char *text, size_t text_len, char *out, size_t out_len, size_t *needed);
 
 int32_t semver_reference_errors(const char *text, size_t text_len, char *out, size_t out_len, size_t *needed);
 
-/* The parts of a name with a version, such as @scope/name@1.2.3: YES. The members are "name", without its scope, "scope", without its
- * @ or null, and "version". */
+/* The parts of a name with a version, such as @scope/name@1.2.3: YES. The members are "name" (without its scope), "scope" (without its
+ * @, or null), and "version". */
 int32_t semver_name_with_version(const char *text, size_t text_len, char *out, size_t out_len, size_t *needed);
 
 /* The parts of a reference to one version of a package, such as jsr:@scope/name@1.2.3/mod.ts: YES. The members are "export", "kind" and
- * "path", as of semver_reference, and "package", as of semver_name_with_version. */
+ * "path" (as from semver_reference), and "package" (as from semver_name_with_version). */
 int32_t semver_version_reference(const char *text, size_t text_len, char *out, size_t out_len, size_t *needed);
 
-/* The parts of a dependency, such as jsr:@scope/name@^1.2 or npm:name@1: YES. The members are "kind", "jsr" or "npm", "normal", the
- * canonical form of the whole string, and "package", as of semver_package. The grammar is that of the range. */
+/* The parts of a dependency, such as jsr:@scope/name@^1.2 or npm:name@1: YES. The members are "kind" ("jsr" or "npm"), "normal" (the
+ * canonical form of the whole string), and "package" (as from semver_package). The grammar is that of the range. */
 int32_t semver_dependency(uint32_t grammar, const char *text, size_t text_len, char *out, size_t out_len, size_t *needed);
 
 /* The name of the export, such as ./mod.ts, that the path of a module in a JSR package means: YES. */
@@ -281,13 +281,13 @@ typedef struct {
     void *at;
 } semver_scans;
 
-/* Parses a range into a handle: YES, with its canonical form, or the tag. A value that the handle held before is freed then; for any
- * other code the handle stays as it was. */
+/* Parses a range into a handle: YES, with its canonical form, or the tag. With YES the call frees the value that the handle held before;
+ * with any other code the handle stays as it was. */
 int32_t semver_req_read(uint32_t grammar, const char *text, size_t text_len, semver_req *handle,
                         char *out, size_t out_len, size_t *needed);
 
-/* Parses a package with a range, such as @scope/name@^1.2: YES, with its name, and the range is read into the handle, as by
- * semver_req_read. The grammar is that of the range. */
+/* Parses a package with a range, such as @scope/name@^1.2: YES, with its name. Its range is put into the handle, as by semver_req_read.
+ * The grammar is that of the range. */
 int32_t semver_package_read(uint32_t grammar, const char *text, size_t text_len, semver_req *handle,
                             char *out, size_t out_len, size_t *needed);
 
@@ -295,24 +295,24 @@ int32_t semver_package_read(uint32_t grammar, const char *text, size_t text_len,
 int32_t semver_version_read(const char *text, size_t text_len, semver_ver *handle,
                             char *out, size_t out_len, size_t *needed);
 
-/* Frees the value of a handle, which is empty then. Freeing an empty handle does nothing. */
+/* Frees the value of a handle, and leaves the handle empty. Freeing an empty handle does nothing. */
 void semver_req_free(semver_req *handle);
 void semver_version_free(semver_ver *handle);
 
 /* Whether the range is a tag: NO or YES. */
 int32_t semver_req_is_tag(const semver_req *handle);
 
-/* Whether the version in a string matches the range: as semver_fits. */
+/* Whether the version in a string matches the range: like semver_fits. */
 int32_t semver_req_fits(const semver_req *handle, const char *version, size_t version_len, uint32_t pre_releases);
 
 /* Whether the version matches the range: NO, YES or TAG. */
 int32_t semver_req_matches(const semver_req *range, const semver_ver *version, uint32_t pre_releases);
 
-/* Whether the version of these numbers, without a pre-release and a build, matches the range: NO, YES or TAG. It is the same for both
- * rules of pre-releases. */
+/* Whether the version with these numbers, and with neither a pre-release nor a build, matches the range: NO, YES or TAG. The answer is
+ * the same for both rules of pre-releases. */
 int32_t semver_req_matches_release(const semver_req *handle, uint64_t major, uint64_t minor, uint64_t patch);
 
-/* Whether the bounds of two ranges overlap: as semver_intersects. */
+/* Whether the bounds of two ranges overlap: like semver_intersects. */
 int32_t semver_req_intersects(const semver_req *one, const semver_req *other);
 
 /* Whether two ranges mean the same, whatever strings they were parsed from: NO or YES. */
@@ -326,48 +326,50 @@ int32_t semver_req_order(const semver_req *one, const semver_req *other);
 /* The string that the range was parsed from: YES. npm's grammar trims it. */
 int32_t semver_req_text(const semver_req *handle, char *out, size_t out_len, size_t *needed);
 
-/* The canonical form of the range, and the version as it is displayed: YES, or NO_MEMORY. */
+/* The canonical form of the range; and the version as it is displayed: YES or NO_MEMORY. */
 int32_t semver_req_normal(const semver_req *handle, char *out, size_t out_len, size_t *needed);
 int32_t semver_version_text(const semver_ver *handle, char *out, size_t out_len, size_t *needed);
 
-/* The sort key of the version: YES, as semver_key, or NO_MEMORY. */
+/* The sort key of the version, like semver_key: YES or NO_MEMORY. */
 int32_t semver_version_key(const semver_ver *handle, char *out, size_t out_len, size_t *needed);
 
-/* The order of two versions: as semver_compare. */
+/* The order of two versions: like semver_compare. */
 int32_t semver_version_compare(const semver_ver *one, const semver_ver *other);
 
 /* The order of two versions in which builds decide last. */
 int32_t semver_version_order(const semver_ver *one, const semver_ver *other);
 
 /* Parses versions, one per line, into a handle, as semver_req_read does a range: YES, and `*lines` is the number of lines. A line that
- * isn't a version keeps its place and matches nothing. For any other code, NOT_UTF8 or NO_MEMORY, `*lines` stays as it was, too. */
+ * isn't a version keeps its place and matches nothing. With any other code, NOT_UTF8 or NO_MEMORY, `*lines` stays as it was, too. */
 int32_t semver_list_read(const char *versions, size_t versions_len, semver_list *handle, size_t *lines);
 
-/* Frees the versions that a handle holds: as semver_req_free. */
+/* Frees the versions that a handle holds: like semver_req_free. */
 void semver_list_free(semver_list *handle);
 
-/* Which versions of the list match the range: as semver_filter. */
+/* Which versions of the list match the range: like semver_filter. */
 int32_t semver_list_filter(const semver_list *list, const semver_req *range, uint32_t pre_releases,
                            int8_t *answers, size_t answers_len, size_t *needed);
 
 /* Which version of the list is the highest that matches the range, the first of equal ones: YES, and `*place` is its line, counted from
- * 0; NO, if none matches; or TAG. For any code but YES `*place` stays as it was. No code says that memory ran out: none is needed. */
+ * 0; NO, if none matches; or TAG. With any code but YES `*place` stays as it was. The call needs no memory, so no code says that memory
+ * ran out. */
 int32_t semver_list_best(const semver_list *list, const semver_req *range, uint32_t pre_releases, size_t *place);
 
 /* The lowest that matches, the first of equal ones: like semver_list_best. */
 int32_t semver_list_lowest(const semver_list *list, const semver_req *range, uint32_t pre_releases, size_t *place);
 
-/* The lines of the list that are versions, in the order of precedence: as semver_sort. A line that isn't a version is left out, and
+/* The lines of the list that are versions, in the order of precedence: like semver_sort. A line that isn't a version is left out, and
  * `*needed` is the number of the others. */
 int32_t semver_list_sort(const semver_list *list, size_t *places, size_t places_len, size_t *needed);
 
 /* Makes the scans of a range, and puts them into a handle, as semver_req_read does a range: YES, and `*count` is how many there are; or
  * TAG. A scan is about one kind of versions: releases or pre-releases. The range matches a version exactly if its sort key is in a scan
  * of its kind: at or above `low`, and below `high`, compared by bytes. The scans about releases come first. Those of a kind are in
- * ascending order, with a gap between one and the next, and none is empty. For any code but YES `handle` and `*count` stay as they were. */
+ * ascending order, with a gap between one and the next, and none is empty. With any code but YES `handle` and `*count` stay as they
+ * were. */
 int32_t semver_scans_read(const semver_req *range, uint32_t pre_releases, semver_scans *handle, size_t *count);
 
-/* Frees the scans that a handle holds: as semver_req_free. */
+/* Frees the scans that a handle holds: like semver_req_free. */
 void semver_scans_free(semver_scans *handle);
 
 /* The scan at this index, counted from 0: NO, if it is about releases, or YES, if it is about pre-releases. Its keys are written to
