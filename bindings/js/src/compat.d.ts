@@ -1,20 +1,21 @@
 /**
- * node-semver's functions and classes over the verified library. NODE_SEMVER.md, which is in the package, says where their answers differ.
+ * node-semver's functions and classes over the verified library. NODE_SEMVER.md, which is in the package, says where their answers differ
+ * from node-semver's.
  *
- * Where node-semver answers null or false for an invalid text, so does this module.
+ * Where node-semver returns null or false for an invalid string, so does this module.
  *
  * @packageDocumentation
  */
 
 /** The options of a call. */
 export interface Options {
-  /** Whether texts are read leniently, such as `=1.2.3` and `1.2.3beta`. */
+  /** Whether strings such as `=1.2.3` and `1.2.3beta` are valid, too. */
   readonly loose?: boolean | undefined;
   /** Whether a range matches every pre-release between its bounds. */
   readonly includePrerelease?: boolean | undefined;
 }
 
-/** The options of a call; `true` for `{ loose: true }`. */
+/** The options of a call; `true` stands for `{ loose: true }`. */
 type Loose = boolean | Options | null | undefined;
 
 /** Which operator {@link cmp} applies. */
@@ -27,7 +28,7 @@ export class SemVer {
    * @throws TypeError where it's invalid
    */
   constructor(version: string | SemVer, options?: Loose);
-  /** The text it was parsed from. */
+  /** The string it was parsed from. */
   raw: string;
   /** The version without its build. */
   version: string;
@@ -65,7 +66,7 @@ export class SemVer {
 
 /** An operator and a version, or any version. */
 export class Comparator {
-  /** What {@link Comparator.semver} is of a comparator that any version matches. */
+  /** The value of {@link Comparator.semver} if any version matches the comparator. */
   static readonly ANY: symbol;
   /**
    * Parses a comparator.
@@ -74,7 +75,7 @@ export class Comparator {
   constructor(comparator: string | Comparator, options?: Loose);
   /** The operator; empty for `=`. */
   operator: '' | '>' | '>=' | '<' | '<=';
-  /** The version behind the operator; {@link Comparator.ANY} where {@link Comparator.value} is empty. */
+  /** The version after the operator; {@link Comparator.ANY} where {@link Comparator.value} is empty. */
   semver: SemVer;
   /** The operator and the version; empty for any version. */
   value: string;
@@ -97,11 +98,11 @@ export class Range {
    * @throws TypeError where it's invalid
    */
   constructor(range: string | Range | Comparator, options?: Loose);
-  /** The text it was parsed from, with single spaces. */
+  /** The string it was parsed from, with single spaces. */
   raw: string;
-  /** The comparators as a text, with `||` between alternatives; empty for any version. */
+  /** The comparators as a string, with `||` between alternatives; empty for any version. */
   range: string;
-  /** The alternatives, each a list of comparators that all match. */
+  /** The alternatives, each a list of comparators. A version matches an alternative if it matches all of them. */
   set: readonly (readonly Comparator[])[];
   /** The options given. */
   options: Options;
@@ -115,7 +116,7 @@ export class Range {
   intersects(range: Range, options?: Loose): boolean;
   /** Makes `range` anew from the set, and returns it. */
   format(): string;
-  /** The comparators as a text. */
+  /** The comparators as a string. */
   toString(): string;
 }
 
@@ -129,7 +130,7 @@ export const RELEASE_TYPES: readonly ReleaseType[];
 export function parse(version: string | SemVer | null | undefined, options?: Loose, throwErrors?: boolean): SemVer | null;
 /** The version without its build; null where it's invalid. */
 export function valid(version: string | SemVer | null | undefined, options?: Loose): string | null;
-/** The same, where `=` and `v` may stand before the version. */
+/** The same as {@link valid}, but `=` and `v` may stand before the version. */
 export function clean(version: string, options?: Loose): string | null;
 /** The first number. */
 export function major(version: string | SemVer, options?: Loose): number;
@@ -164,7 +165,7 @@ export function neq(one: string | SemVer, other: string | SemVer, options?: Loos
 export function gte(one: string | SemVer, other: string | SemVer, options?: Loose): boolean;
 /** Whether the first version isn't above the other. */
 export function lte(one: string | SemVer, other: string | SemVer, options?: Loose): boolean;
-/** The comparison that the operator names; `===` and `!==` compare texts. */
+/** The comparison that the operator names; `===` and `!==` compare strings. */
 export function cmp(one: string | SemVer, operator: Operator, other: string | SemVer, options?: Loose): boolean;
 
 /** Sorts the list in place, the lowest first, by precedence and then by the build. */
@@ -180,9 +181,9 @@ export function maxSatisfying<T extends string | SemVer>(versions: readonly T[],
 export function minSatisfying<T extends string | SemVer>(versions: readonly T[], range: string | Range, options?: Loose): T | null;
 /** The lowest version that the range matches; null where no version does. */
 export function minVersion(range: string | Range | Comparator, options?: Loose): SemVer | null;
-/** The comparators of the range as a text, `*` for any version; null where the range is invalid. */
+/** The comparators of the range as a string, `*` for any version; null where the range is invalid. */
 export function validRange(range: string | Range | Comparator | null | undefined, options?: Loose): string | null;
-/** The comparators of the range, as the texts of each alternative. */
+/** The comparators of the range: for each alternative, a list of strings. */
 export function toComparators(range: string | Range | Comparator, options?: Loose): string[][];
 /** Whether a version matches both ranges. */
 export function intersects(one: string | Range | Comparator, other: string | Range | Comparator, options?: Loose): boolean;
@@ -194,33 +195,33 @@ export function outside(version: string | SemVer, range: string | Range | Compar
 export function gtr(version: string | SemVer, range: string | Range | Comparator, options?: Loose): boolean;
 /** {@link outside} with `<`. */
 export function ltr(version: string | SemVer, range: string | Range | Comparator, options?: Loose): boolean;
-/** A range that matches the same of these versions, if its text is shorter; else the one that is given. */
+/** A range that matches the same of these versions as the given one, if its string is shorter; else the given one. */
 export function simplifyRange<T extends string | Range>(versions: readonly string[], range: T, options?: Loose): string | T;
 
-/** A kind of release, by which step a version comes next. */
+/** The kind of a step to the next version. */
 export type ReleaseType = 'major' | 'premajor' | 'minor' | 'preminor' | 'patch' | 'prepatch' | 'prerelease' | 'release';
 
-/** How a version is raised: to the next one of a kind, or by `pre` in its pre-release, which a release then gets. */
+/** How {@link inc} raises a version: to the next one of a kind, or, by `pre`, only in its pre-release; a release then gets one. */
 type Step = ReleaseType | 'pre';
 
 /** The first number of a pre-release; `false` for none. */
 export type IdentifierBase = '0' | '1' | false;
 
-/** The next version of a kind; null where there is none, or the version is invalid. */
+/** The next version of a kind; null where there is none, or where the version is invalid. */
 export function inc(version: string | SemVer, type: Step, options?: Loose, identifier?: string, base?: IdentifierBase): string | null;
 /** The same without options. */
 export function inc(version: string | SemVer, type: Step, identifier?: string, base?: IdentifierBase): string | null;
-/** Of which kind the step between two versions is; null if they have the same precedence. */
+/** The kind of the step between two versions; null if they have the same precedence. */
 export function diff(one: string | SemVer, other: string | SemVer): ReleaseType | null;
-/** The options of {@link coerce}, which with `includePrerelease` takes a pre-release and a build, too. */
+/** The options of {@link coerce}. With `includePrerelease` it takes a pre-release and a build, too. */
 export interface CoerceOptions extends Options {
-  /** Whether the last version is taken, and not the first one. */
+  /** Whether to take the last version and not the first one. */
   readonly rtl?: boolean | undefined;
 }
 
 /** The first version that a string contains, one to three numbers with `.` between them; null where there is none. */
 export function coerce(version: string | number | SemVer | null | undefined, options?: CoerceOptions | boolean): SemVer | null;
 
-/** All of it, for `import semver from 'deno-semver/compat'`. */
+/** All of this module, for `import semver from 'deno-semver/compat'`. */
 declare const all: Omit<typeof import('./compat.js'), 'default'>;
 export default all;

@@ -12,14 +12,14 @@
 
 declare global {
   interface SymbolConstructor {
-    /** The method that a `using` declaration calls; hosts that are older than 2023 have none. */
+    /** The method that a `using` declaration calls. Runtimes from before 2023 have none. */
     readonly dispose: unique symbol;
   }
 }
 
 /**
  * A grammar of ranges: npm's, which is the default; `normalized`, comparators separated by whitespace, with alternatives separated by
- * `||`; or `strict`, that of package specifiers: `~`, `^` or nothing before one partial version.
+ * `||`; or `strict`, the grammar of package specifiers: `~`, `^` or nothing before one partial version.
  */
 export type Grammar = 'npm' | 'normalized' | 'strict';
 
@@ -36,8 +36,8 @@ export interface ListOptions {
 }
 
 /**
- * How a range is parsed, and which pre-releases it matches. A {@link Range} has its own options. These replace them, except for its
- * grammar.
+ * How a range is parsed, and which pre-releases it matches. A {@link Range} has options of its own; those of a call replace them, except
+ * for the grammar.
  */
 export interface Options extends GrammarOptions {
   /**
@@ -85,7 +85,7 @@ export class VersionSyntaxError extends InvalidTextError {}
 /** A package or a reference is invalid. */
 export class PackageSyntaxError extends InvalidTextError {}
 
-/** A range is a tag, such as `latest`: the name that a registry gives a version. Only the registry knows what it matches. */
+/** A range is a tag, such as `latest`: a name that a registry gives a version. Only the registry knows what it matches. */
 export class TagError extends Error {
   /** The tag. */
   readonly tag: string;
@@ -98,13 +98,13 @@ export class Version {
    * @throws {@link VersionSyntaxError}
    */
   constructor(version: string | Version);
-  /** The first number; `RangeError` where it's above `Number.MAX_SAFE_INTEGER`. */
+  /** The first number; a `RangeError` is thrown if it's above `Number.MAX_SAFE_INTEGER`. */
   get major(): number;
-  /** The second number; `RangeError` where it's above `Number.MAX_SAFE_INTEGER`. */
+  /** The second number; a `RangeError` is thrown if it's above `Number.MAX_SAFE_INTEGER`. */
   get minor(): number;
-  /** The third number; `RangeError` where it's above `Number.MAX_SAFE_INTEGER`. */
+  /** The third number; a `RangeError` is thrown if it's above `Number.MAX_SAFE_INTEGER`. */
   get patch(): number;
-  /** The identifiers of the pre-release; none for a release. */
+  /** The identifiers of the pre-release; empty for a release. */
   get preRelease(): string[];
   /** The identifiers of the build. */
   get build(): string[];
@@ -122,7 +122,7 @@ export class Version {
   toJSON(): string;
 }
 
-/** Sort keys of releases, or of pre-releases, that a range matches. */
+/** The sort keys from `low` on and below `high`, of releases or of pre-releases that a range matches. */
 export interface Scan {
   /** Whether it is about pre-releases. */
   isPre: boolean;
@@ -133,8 +133,8 @@ export interface Scan {
 }
 
 /**
- * A range, or a tag, that is parsed once. The library holds it until `free()`, or the end of the block of a `using` declaration, or
- * until the object is collected.
+ * A range, or a tag, that is parsed once. The library holds it until you call `free()`, until the block of its `using` declaration ends,
+ * or until JavaScript collects the object.
  */
 export class Range {
   /**
@@ -153,9 +153,9 @@ export class Range {
    * @throws {@link VersionSyntaxError}, {@link TagError}
    */
   matches(version: string | Version): boolean;
-  /** Whether both ranges overlap by their bounds. Two tags do if they are the same. */
+  /** Whether the bounds of both ranges overlap. Two tags overlap if they are the same. */
   intersects(other: string | Range): boolean;
-  /** Whether both ranges have the same bounds, or are the same tag, whatever their texts. */
+  /** Whether both ranges have the same bounds, or are the same tag, whatever their strings. */
   equals(other: string | Range): boolean;
   /**
    * What the range matches, as scans of an index on {@link Version.sortKey}: a version matches exactly if its key is in a scan of its
@@ -195,7 +195,7 @@ export class VersionList<T extends string | Version = string> {
    * @throws {@link TagError}
    */
   lowest(range: string | Range, options?: Options): T | undefined;
-  /** The versions by precedence, without the invalid ones. Versions that differ only in the build keep their order. */
+  /** The versions by precedence, the lowest first, without the invalid ones. Versions that differ only in the build keep their order. */
   sort(): T[];
   /** Frees the list. Its methods throw `TypeError` then. */
   free(): void;
@@ -227,14 +227,14 @@ export function sort<T extends string | Version>(versions: readonly T[], options
 /** -1, 0 or 1: the order of two versions by precedence, which ignores the build. */
 export function compare(one: string | Version, other: string | Version): -1 | 0 | 1;
 
-/** The kind of a step to the next version. Those with `pre` before another kind give a pre-release of the next version of that kind. */
+/** The kind of a step to the next version. `premajor`, `preminor` and `prepatch` give a pre-release of the next major, minor or patch. */
 export type ReleaseType = 'major' | 'minor' | 'patch' | 'premajor' | 'preminor' | 'prepatch' | 'prerelease' | 'release';
 
 /** How a pre-release begins. */
 export interface PreReleaseStart {
-  /** Its identifiers, with `.` between them. None by default. */
+  /** Its identifiers, with `.` between them; none by default. */
   identifier?: string;
-  /** The number after them; `false` for none. 0 by default. */
+  /** The number after them: 0 by default, and `false` for none. */
   base?: 0 | 1 | false;
 }
 
@@ -248,7 +248,7 @@ export class IncrementError extends Error {
 }
 
 /**
- * The next version of a kind, without a build. The next release of a pre-release may be its own: `patch` of `1.2.3-rc.1` is `1.2.3`.
+ * The next version of a kind, without a build. After a pre-release, the next release may be its own: `patch` of `1.2.3-rc.1` is `1.2.3`.
  * `prerelease` raises the last number of a pre-release, if the pre-release begins with your identifier and goes on with a number, or if
  * you give no identifier.
  * @example increment('1.2.3', 'prerelease', { identifier: 'beta' }) // '1.2.4-beta.0'
@@ -289,10 +289,10 @@ export function counterexample(one: string | Range, other: string | Range, optio
 /** Whether both ranges match the same versions. */
 export function isEquivalent(one: string | Range, other: string | Range, options?: Options): boolean;
 
-/** Whether two ranges overlap by their bounds, between which there may be no version: {@link common} is exact. */
+/** Whether the bounds of two ranges overlap. There may be no version between them; {@link common} is exact. */
 export function intersects(one: string | Range, other: string | Range, options?: GrammarOptions): boolean;
 
-/** The lowest version that all ranges match; undefined where there is none, and where there are no ranges. */
+/** The lowest version that all ranges match; undefined if there is none, or if you pass no ranges. */
 export function common(ranges: readonly (string | Range)[], options?: Options): string | undefined;
 
 /** The lowest version that the range matches; undefined where no version does. */
@@ -324,7 +324,7 @@ export interface ValidAlternative {
   readonly error?: undefined;
 }
 
-/** An alternative that isn't valid, which npm's grammar leaves out. */
+/** An invalid alternative, which npm's grammar leaves out. */
 export interface InvalidAlternative {
   /** The string, without the whitespace around it. */
   readonly text: string;
@@ -332,7 +332,7 @@ export interface InvalidAlternative {
   readonly error: Diagnosis;
 }
 
-/** What a range means: its alternatives and its canonical form; or the tag that it is. */
+/** What a range means: its alternatives and its canonical form; or, if it is a tag, the tag. */
 export type Explanation =
   | { readonly alternatives: readonly (ValidAlternative | InvalidAlternative)[]; readonly canonical: string }
   | { readonly tag: string };
@@ -374,7 +374,7 @@ export interface ReferenceParts {
 export function parsePackage(specifier: string, options?: GrammarOptions): PackageParts;
 
 /**
- * The parts of a reference that begins with `jsr:` or `npm:`. Its grammar is the strict one.
+ * The parts of a reference that begins with `jsr:` or `npm:`. Its range has the strict grammar.
  * @throws {@link PackageSyntaxError}
  */
 export function parseReference(specifier: string): ReferenceParts;
