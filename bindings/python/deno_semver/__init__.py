@@ -8,12 +8,12 @@ True
 >>> counterexample("^1", "^1.2")
 '1.0.0'
 
-A range or a version is a text, a `Range` or a `Version`. An invalid text raises `InvalidRange` or `InvalidVersion`, a range that is
-a tag `TagError`, an argument of another type `TypeError`, and running out of memory `MemoryError`.
+A range is a string or a `Range`, and a version a string or a `Version`. An invalid string raises `InvalidRange` or `InvalidVersion`; a
+range that is a tag, `TagError`; an argument of another type, `TypeError`; and running out of memory, `MemoryError`.
 
-`grammar` is that of ranges: "npm" by default; "normalized", comparators separated by whitespace, alternatives by `||`; or "strict",
-that of package specifiers. With `pre_releases` every pre-release between the bounds matches; without it, by npm's rule, one matches if
-a bound is a pre-release of its three numbers.
+`grammar` is the grammar of ranges: "npm" by default; "normalized", comparators separated by whitespace, alternatives by `||`; or "strict",
+the grammar of package specifiers. With `pre_releases` every pre-release between the bounds matches. Without it, by npm's rule, a
+pre-release between the bounds matches only if a bound is a pre-release of the same three numbers.
 """
 
 from ._errors import IncrementError, InvalidPackage, InvalidRange, InvalidVersion, SemverError, TagError

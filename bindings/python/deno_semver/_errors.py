@@ -6,13 +6,13 @@ from typing import Any, Optional, Tuple
 
 
 class SemverError(ValueError):
-    """A text is invalid.
+    """A string is invalid.
 
-    `text` is the text, and `message` what is wrong with it. `index` is its index in a list, or among the arguments of its kind.
+    `text` is the string, and `message` says what is wrong with it. `index` is its index in a list, or among the arguments of its kind.
 
-    `start` is the index of the character at which the text goes wrong, and `end` that at which the invalid part ends: an alternative of a
-    range, also of one in a package, or the whole text. Both are None if they aren't known. `expected` is what could be at `start`:
-    "digit", "letter", "whitespace", "end", "name", or a text such as "."; it is empty if that isn't known.
+    `start` is the index of the character at which the string goes wrong, and `end` the index at which the invalid part ends: an alternative
+    of a range, also of one in a package, or the whole string. Both are None if they aren't known. `expected` is what could be at `start`:
+    "digit", "letter", "whitespace", "end", "name", or a string such as "."; it is empty if that isn't known.
 
     >>> from deno_semver import Range
     >>> try:
@@ -51,19 +51,20 @@ class SemverError(ValueError):
 
 
 class InvalidRange(SemverError):
-    """A text isn't a version range."""
+    """A string isn't a version range."""
 
 
 class InvalidVersion(SemverError):
-    """A text isn't a version."""
+    """A string isn't a version."""
 
 
 class IncrementError(SemverError):
-    """No version follows: a number is too large, a release has no release, or the pre-release would be empty, invalid or the same."""
+    """There is no next version: a number is too large, you asked for the release of a release, or the pre-release would be empty, invalid
+    or the same as before."""
 
 
 class InvalidPackage(SemverError):
-    """A text isn't a package with a range, or a reference to one."""
+    """A string isn't a package with a range, or a reference to one."""
 
 
 class TagError(SemverError):

@@ -1,4 +1,4 @@
-"""Questions about texts, ranges and versions."""
+"""Questions about strings, ranges and versions."""
 
 from __future__ import annotations
 
@@ -124,7 +124,7 @@ def filter(
 
 
 def _valid(versions: Iterable[V]) -> List[V]:
-    """The versions, without what isn't one."""
+    """The versions, without the invalid ones."""
     return filter("*", versions, pre_releases=True, skip_invalid=True)
 
 
@@ -175,7 +175,7 @@ def lowest(
 
 
 def sort(versions: Iterable[V], *, reverse: bool = False, skip_invalid: bool = False) -> List[V]:
-    """The versions by precedence; those that differ only in the build keep their order.
+    """The versions by precedence, the lowest first, or with `reverse` the highest. Those that differ only in the build keep their order.
 
     >>> sort(["1.10.0", "1.9.0", "1.9.0-rc.1"])
     ['1.9.0-rc.1', '1.9.0', '1.10.0']
@@ -215,10 +215,10 @@ _BASES = {0: 0, 1: 1, None: 2}
 
 
 def increment(version: V, release_type: ReleaseType, *, identifier: str = "", base: Optional[int] = 0) -> V:
-    """The next version of a kind, without a build. A pre-release begins with the identifier and with `base`, 0, 1 or no number.
+    """The next version of a kind, without a build. A first pre-release has the identifier, and then `base`: 0, 1, or None for no number.
 
-    The next release of a pre-release may be its own. A pre-release is raised in its last number, if it begins with the identifier and goes
-    on with a number, or if none is given.
+    After a pre-release, the next release may be its own. "prerelease" raises the last number of a pre-release, if the pre-release begins
+    with the identifier and goes on with a number, or if you give no identifier.
 
     >>> increment("1.2.3", "prerelease", identifier="beta")
     '1.2.4-beta.0'
@@ -245,7 +245,7 @@ def increment(version: V, release_type: ReleaseType, *, identifier: str = "", ba
 
 
 def coerce(text: str, *, rtl: bool = False) -> Optional[str]:
-    """The first version in a string, one to three numbers with a dot between neighbours; with `rtl` the one that ends last.
+    """The first version in a string: one to three numbers with a dot between neighbours. With `rtl`, the one that ends last.
 
     >>> coerce("v3.4 replaces 3.3.1"), coerce("v3.4 replaces 3.3.1", rtl=True)
     ('3.4.0', '3.3.1')
@@ -262,7 +262,7 @@ def coerce(text: str, *, rtl: bool = False) -> Optional[str]:
 
 
 def difference(one: AnyVersion, other: AnyVersion) -> Optional[ReleaseType]:
-    """Of which kind the step between two versions is, in either direction; None if they have the same precedence.
+    """The kind of the step between two versions, in either direction; None if they have the same precedence.
 
     >>> difference("1.2.3", "1.3.0-rc.1")
     'preminor'
@@ -291,7 +291,7 @@ def _fail_two(code: int, ranges: Tuple[Tuple[bytes, str], ...], number: int, pla
 
 
 def intersects(one: AnyRange, other: AnyRange, *, grammar: Optional[Grammar] = None) -> bool:
-    """Whether the bounds of two ranges overlap; `common` knows whether a version lies there. Two tags overlap if they are the same.
+    """Whether the bounds of two ranges overlap; `common` says whether both match a version. Two tags overlap if they are the same.
 
     >>> intersects(">1.0.0", "<1.0.1")
     True
@@ -320,7 +320,7 @@ def counterexample(one: AnyRange, other: AnyRange, *, grammar: Optional[Grammar]
 
 
 def is_subset(one: AnyRange, other: AnyRange, *, grammar: Optional[Grammar] = None, pre_releases: bool = False) -> bool:
-    """Whether the other range matches each version that the first one matches; `counterexample` gives one that it doesn't.
+    """Whether the other range matches each version that the first one matches; if not, `counterexample` returns one that it doesn't.
 
     >>> is_subset("^1.3", "^1.2")
     True
@@ -380,7 +380,7 @@ def min_version(range: AnyRange, *, grammar: Optional[Grammar] = None, pre_relea
 
 
 def canonical(range: AnyRange, *, grammar: Optional[Grammar] = None) -> str:
-    """The canonical form of the range, for lockfiles and keys; of a tag, the tag.
+    """The canonical form of the range, for lockfiles and keys; for a tag, the tag.
 
     >>> canonical(">=1.2 <2 || 3.x")
     '^1.2.0 || 3'
@@ -409,7 +409,7 @@ def _bound(parts: Optional[Dict[str, Any]]) -> Optional[Bound]:
 
 
 def bounds(range: AnyRange, *, grammar: Optional[Grammar] = None) -> List[Bounds]:
-    """The bounds of each alternative of the range, but for those that no version can match.
+    """The bounds of each alternative of the range, except those that are invalid or end below 0.0.0.
 
     >>> bounds("^1.2 || >=3")[0]
     Bounds(start=Bound(version='1.2.0', inclusive=True), end=Bound(version='2.0.0', inclusive=False))
@@ -424,7 +424,7 @@ def bounds(range: AnyRange, *, grammar: Optional[Grammar] = None) -> List[Bounds
 class Alternative(NamedTuple):
     """An alternative of a range, and what it means.
 
-    `start` and `end` are its bounds, or None where it has none. `pre_releases` has the three numbers of which pre-releases match, such as
+    `start` and `end` are its bounds, or None where it has none. `pre_releases` has the three numbers whose pre-releases match, such as
     "1.2.3", or is "all". `lowest` is the lowest version that matches, or None. `error` says why an invalid alternative is left out; its
     indexes are those of the whole range.
     """
@@ -471,7 +471,7 @@ def explain(range: AnyRange, *, grammar: Optional[Grammar] = None, pre_releases:
 
 
 def may_be_tag(text: str) -> bool:
-    """Whether the text can be a tag, by npm's rules.
+    """Whether the string can be a tag, by npm's rules.
 
     >>> may_be_tag("latest"), may_be_tag("a b")
     (True, False)

@@ -23,7 +23,7 @@ class VersionList(Generic[V]):
     >>> len(versions), list(versions)[1]
     (3, '2.0.0')
 
-    A string that isn't a version raises `InvalidVersion` with its index. With `skip_invalid` it stays in the list, and matches nothing.
+    A string that isn't a version raises `InvalidVersion` with its index. With `skip_invalid` it stays in the list and matches nothing.
     """
 
     __slots__ = ("_held", "_versions", "__weakref__")
@@ -73,7 +73,7 @@ class VersionList(Generic[V]):
         return self._find("list_lowest", _parsed(range), pre_releases)
 
     def sort(self) -> List[V]:
-        """The versions by precedence, without what isn't a version. Those that differ only in the build keep their order."""
+        """The versions by precedence, the lowest first, without the invalid ones. Those that differ only in the build keep their order."""
         count, needed = len(self._versions), c_size_t()
         places = (c_size_t * max(count, 1))()
         if CALLS["list_sort"](self._held.lent(), places, count, byref(needed)) != YES:

@@ -67,7 +67,7 @@ class Version:
     >>> Version("1.10.0") > Version("1.9.0")
     True
 
-    Versions that differ only in the build are different, and ordered by it. `precedes` ignores builds, as SemVer does.
+    Versions that differ only in the build aren't equal, and are ordered by the build. `precedes` ignores builds, as SemVer does.
     """
 
     __slots__ = ("_text", "_numbers", "_held", "__weakref__")
@@ -149,8 +149,8 @@ class Version:
 
     @property
     def sort_key(self) -> str:
-        """The sort key, for a column of a database: printable ASCII without whitespace. Keys compare as `precedes` says, also as bytes, and no
-        key begins another.
+        """The sort key, for a column of a database: printable ASCII without whitespace. Keys compare as `precedes` compares versions, also
+        as bytes, and no key begins another.
 
         >>> Version("1.10.0-beta.2").sort_key
         'A1B10A0-$beta!#A22!!'
@@ -199,7 +199,7 @@ class Version:
 
 
 class Scan(NamedTuple):
-    """The sort keys from `low` on and below `high`, of releases, or of pre-releases where `is_pre` holds."""
+    """The sort keys from `low` on and below `high`: of pre-releases if `is_pre` is true, else of releases."""
 
     is_pre: bool
     low: str
@@ -228,8 +228,8 @@ class Range:
     >>> "1.5.0" in range, "2.0.0" in range
     (True, False)
 
-    Ranges are equal if they mean the same, whatever texts they were parsed from. `grammar` is "npm", "normalized" (comparators
-    separated by whitespace, alternatives by `||`) or "strict" (that of package specifiers).
+    Ranges are equal if they mean the same, whatever strings they were parsed from. `grammar` is "npm", "normalized" (comparators separated
+    by whitespace, alternatives by `||`) or "strict" (the grammar of package specifiers).
     """
 
     __slots__ = ("_held", "_text", "_grammar", "_canonical", "_is_tag", "__weakref__")
@@ -254,7 +254,7 @@ class Range:
 
     @property
     def text(self) -> str:
-        """The text that the range was parsed from."""
+        """The string that the range was parsed from."""
         return self._text
 
     @property
@@ -263,12 +263,12 @@ class Range:
 
     @property
     def canonical(self) -> str:
-        """The canonical form, for lockfiles and keys; of a tag, the tag."""
+        """The canonical form, for lockfiles and keys; for a tag, the tag."""
         return self._canonical
 
     @property
     def is_tag(self) -> bool:
-        """Whether this is a tag, the name that a registry gives a version."""
+        """Whether this is a tag, a name that a registry gives a version."""
         return self._is_tag
 
     def __str__(self) -> str:
@@ -290,7 +290,7 @@ class Range:
         return Range, (self.text, self.grammar)
 
     def matches(self, version: Union[str, Version], *, pre_releases: bool = False) -> bool:
-        """Whether the version matches. With `pre_releases` every pre-release between the bounds does.
+        """Whether the version matches. With `pre_releases` every pre-release between the bounds matches.
 
         >>> Range("^1.2").matches("1.3.0-rc.1")
         False
@@ -316,7 +316,7 @@ class Range:
         return self.matches(version)
 
     def intersects(self, other: Range) -> bool:
-        """Whether the bounds of both ranges overlap; two tags do if they are the same.
+        """Whether the bounds of both ranges overlap; two tags overlap if they are the same.
 
         >>> Range("^1.2").intersects(Range(">=1.5 <3"))
         True
