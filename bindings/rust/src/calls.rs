@@ -25,13 +25,13 @@ pub enum Grammar {
     Strict = 2,
 }
 
-/// Whether pre-releases match by npm's rule, or whenever they are within the bounds.
+/// Whether pre-releases match by npm's rule, or wherever they lie between the bounds.
 #[derive(Clone, Copy, Debug, PartialEq, Eq)]
 #[repr(u32)]
 pub enum PreRelease {
-    /// npm's rule: only next to a bound that is a pre-release of the same version.
+    /// npm's rule: a pre-release matches only if a bound is a pre-release of the same three numbers.
     Restricted = 0,
-    /// Every one between the bounds.
+    /// Every pre-release between the bounds matches.
     Admitted = 1,
 }
 

@@ -1,4 +1,4 @@
-//! Why a text is invalid.
+//! Why a string is invalid.
 
 use crate::calls::{failed, Grammar, YES};
 use crate::externs::{semver_errors, semver_version_error};
@@ -37,7 +37,7 @@ macro_rules! parse_error {
         $(#[$doc])*
         #[derive(Clone, Debug, PartialEq, Eq)]
         pub struct $name {
-            /// What is wrong with the text.
+            /// What is wrong with the string.
             pub source: $crate::ParseErrorFailureError,
         }
 
@@ -54,31 +54,31 @@ macro_rules! parse_error {
 
 pub(crate) use {display, errors, parse_error};
 
-/// Where a text is invalid, by indexes of its bytes, and what could be there.
+/// Where a string is invalid, by indexes of its bytes, and what could be there.
 #[derive(Clone, Debug, PartialEq, Eq)]
 pub struct Place {
-    /// The index at which the text goes wrong.
+    /// The index at which the string goes wrong.
     pub start: usize,
     /// The index at which the invalid alternative of a requirement, or the version, ends.
     pub end: usize,
-    /// What could be at the start: `digit`, `letter`, `whitespace`, `end`, or a text such as `.`. It is empty for a version, for a number
+    /// What could be at `start`: `digit`, `letter`, `whitespace`, `end`, or a string such as `.`. It is empty for a version, for a number
     /// that is too large, and where neither a range nor a tag goes on like this.
     pub expected: Vec<String>,
 }
 
-/// The text that was parsed.
+/// The string that was parsed.
 #[derive(Clone, Debug, PartialEq, Eq)]
 enum Parsed {
     Range(Grammar, String),
     Version(String),
 }
 
-/// What is wrong with a text.
+/// What is wrong with a string.
 #[derive(Clone, Debug, PartialEq, Eq)]
 pub struct ParseErrorFailureError {
     /// What is wrong, in one line.
     pub message: String,
-    /// With a missing number of a version the whole text, with a path behind a package the path, else none.
+    /// If a number of a version is missing, the whole string; if a path follows a package, the path; else none.
     pub code_snippet: Option<String>,
     // None where the place isn't known.
     parsed: Option<Parsed>,
@@ -99,10 +99,10 @@ impl ParseErrorFailureError {
         ParseErrorFailureError { message, code_snippet, parsed: Some(Parsed::Version(text.to_owned())) }
     }
 
-    /// Where the text is invalid: that of the requirement, in its first invalid alternative, or that of the version, without a package
-    /// before it. It is found by this call, in some 50 µs for a short requirement.
+    /// Where the string of the requirement or the version is invalid; a package's name before it doesn't count. In a requirement, the place
+    /// is in the first invalid alternative. This call finds it, in some 50 µs for a short requirement.
     ///
-    /// None if it isn't known: of a path behind a package, and of [`Version::from_parts`](crate::Version::from_parts).
+    /// None if the place isn't known: for a path after a package, and for [`Version::from_parts`](crate::Version::from_parts).
     ///
     /// ```
     /// use deno_semver_proved::VersionReq;

@@ -78,7 +78,7 @@ impl JsrDepPackageReq {
         Ok(JsrDepPackageReq { kind, req: parse_req(package)? })
     }
 
-    /// The canonical form of the whole text, as it is stored. It isn't a URL.
+    /// The canonical form of the whole string, to be stored. It isn't a URL.
     pub fn to_string_normalized(&self) -> StackString {
         StackString::concat(&[self.kind.scheme_with_colon(), &self.req.name, "@", self.req.version_req.normalized()])
     }
@@ -88,10 +88,10 @@ display! {
     JsrDepPackageReq: |it, f| write!(f, "{}{}", it.kind.scheme_with_colon(), it.req);
 }
 
-/// Why a text isn't a dependency.
+/// Why a string isn't a dependency.
 #[derive(Clone, Debug, PartialEq, Eq)]
 pub enum JsrDepPackageReqParseError {
-    /// The text begins with this scheme, or has none and is this.
+    /// The string begins with this scheme; or it has no scheme, and this is the string.
     NotExpectedScheme(String),
     /// The package is invalid.
     PackageReqParse(PackageReqParseError),

@@ -126,7 +126,7 @@ pub fn sort(versions: impl IntoIterator<Item = impl Display>) -> Result<Vec<usiz
     }
 }
 
-/// Versions that are parsed once and asked of by many ranges.
+/// Versions that are parsed once, for many ranges.
 #[derive(Clone)]
 pub struct VersionList {
     held: Arc<Versions>,
@@ -134,7 +134,7 @@ pub struct VersionList {
 }
 
 impl VersionList {
-    /// Parses versions. What isn't a version keeps its place and matches nothing.
+    /// Parses versions. An invalid one keeps its place and matches nothing.
     pub fn parse(versions: impl IntoIterator<Item = impl Display>) -> VersionList {
         let (versions, mut count) = lines(versions);
         let (held, _) = Versions::read(|handle, _, _| semver_list_read(&versions, handle, &mut count));
@@ -157,8 +157,7 @@ impl VersionList {
         chosen(|place| semver_list_lowest(&self.held, req.held(), pre_release as u32, place)).expect("a requirement is valid")
     }
 
-    /// The indexes of the versions by precedence; versions that differ in the build alone keep their order. What isn't a version is left
-    /// out.
+    /// The indexes of the versions by precedence; versions that differ in the build alone keep their order. Invalid ones are left out.
     pub fn sort(&self) -> Vec<usize> {
         let (mut places, mut needed) = (vec![0; self.count], 0);
         match semver_list_sort(&self.held, &mut places, &mut needed) {
@@ -168,12 +167,12 @@ impl VersionList {
         places
     }
 
-    /// How many versions there are, with what isn't one.
+    /// How many versions there are, with the invalid ones.
     pub fn len(&self) -> usize {
         self.count
     }
 
-    /// Whether there is none.
+    /// Whether the list is empty.
     pub fn is_empty(&self) -> bool {
         self.count == 0
     }

@@ -34,7 +34,7 @@ pub fn min_version(grammar: Grammar, range: &str, pre_release: PreRelease) -> Re
     lowest(YES, |out, needed, _| semver_min_version(grammar as u32, range, pre_release as u32, out, needed))
 }
 
-/// The lowest version that all ranges match; none if there are none.
+/// The lowest version that all ranges match; none if you pass no ranges.
 ///
 /// ```
 /// # use deno_semver_proved::{lowest::{common_version, Lowest}, Grammar, PreRelease};

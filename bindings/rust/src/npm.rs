@@ -7,28 +7,28 @@ use crate::package::references;
 use crate::version::Version;
 use crate::version_req::VersionReq;
 
-/// Parses a version as npm does.
+/// Parses a version by npm's grammar.
 pub fn parse_npm_version(text: &str) -> Result<Version, NpmVersionParseError> {
     Version::parse_from_npm(text)
 }
 
-/// Parses a requirement as npm does.
+/// Parses a requirement by npm's grammar.
 pub fn parse_npm_version_req(text: &str) -> Result<VersionReq, NpmVersionReqParseError> {
     VersionReq::parse_from_npm(text)
 }
 
-/// Whether the text can be a tag, by npm's rules.
+/// Whether the string can be a tag, by npm's rules.
 pub fn is_valid_npm_tag(value: &str) -> bool {
     semver_may_be_tag(value) == YES
 }
 
 parse_error!(
-    /// Why a text isn't a version for npm.
+    /// Why a string isn't a version by npm's grammar.
     NpmVersionParseError,
     "Invalid npm version"
 );
 parse_error!(
-    /// Why a text isn't a requirement for npm.
+    /// Why a string isn't a requirement by npm's grammar.
     NpmVersionReqParseError,
     "Invalid version requirement"
 );

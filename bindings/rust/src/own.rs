@@ -1,4 +1,4 @@
-//! What this crate answers without the library, for its speed, or since the library has no call for ranges that a caller builds. README.md
+//! What this crate answers without the library: for speed, or since the library has no call for ranges that a caller builds. README.md
 //! names the test that compares each with the library.
 
 use crate::calls::ordering;
@@ -249,7 +249,8 @@ impl VersionRange {
         may_match && self.intersects_version(version)
     }
 
-    /// What both ranges have in common. If that is nothing, it starts and ends at one version, and one bound excludes it.
+    /// What both ranges have in common. If they have nothing in common, the result starts and ends at one version, and one of its bounds
+    /// excludes that version.
     pub fn clamp(&self, range: &VersionRange) -> VersionRange {
         let end = self.end.clamp_end(&range.end);
         let start = match (self.start.clamp_start(&range.start), &end) {
@@ -265,7 +266,7 @@ impl VersionRange {
             && self.end.bound().is_none_or(|end| end.admits(version, Ordering::Less))
     }
 
-    /// Whether the ranges overlap by their bounds.
+    /// Whether the bounds of the ranges overlap.
     pub fn intersects_range(&self, other: &VersionRange) -> bool {
         let meet = |start: &RangeBound, end: &RangeBound| match (start.bound(), end.bound()) {
             (Some(start), Some(end)) => start.meets(end),
@@ -281,14 +282,14 @@ impl VersionRangeSet {
         self.0.iter().any(|range| range.satisfies(version))
     }
 
-    /// Whether a range of one set overlaps a range of the other by its bounds.
+    /// Whether the bounds of a range of one set and of a range of the other overlap.
     pub fn intersects_set(&self, other: &VersionRangeSet) -> bool {
         self.0.iter().any(|one| other.0.iter().any(|two| one.intersects_range(two)))
     }
 }
 
 impl RangeSetOrTag {
-    /// Whether ranges overlap by their bounds, or tags are equal.
+    /// Whether the bounds of ranges overlap, or tags are equal.
     pub fn intersects(&self, other: &RangeSetOrTag) -> bool {
         match (self, other) {
             (RangeSetOrTag::RangeSet(one), RangeSetOrTag::RangeSet(two)) => one.intersects_set(two),

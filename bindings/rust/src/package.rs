@@ -1,7 +1,7 @@
 //! Packages with a requirement or a version, and references to them.
 //!
-//! The name and the path are split off here, in Rust; the requirement and the version are parsed by the proved library, whose own calls
-//! for whole packages ([`json`]) give the same parts as JSON.
+//! This module splits off the name and the path, in Rust, and the proved library parses the requirement and the version. The library's own
+//! calls for whole packages ([`json`]) return the same parts as JSON.
 
 use crate::calls::Grammar;
 use crate::error::{display, errors, ParseErrorFailureError, Place};
@@ -19,7 +19,7 @@ use std::fmt;
 /// The name of a package, its scope included.
 pub type PackageName = StackString;
 
-/// The path behind a package.
+/// The path after a package.
 pub type PackageSubPath = SmallStackString;
 
 /// The registry of a package.
@@ -41,10 +41,10 @@ impl PackageKind {
     }
 }
 
-/// A package and a requirement of its version. The name includes the scope.
+/// A package and a requirement for its version. The name includes the scope.
 ///
-/// The order is by name, then a tag before ranges, and then so that a requirement that leaves fewer versions comes first: it has the higher
-/// start, and then the lower end.
+/// The order is by name, and a tag comes before ranges. Of two ranges, the one with the higher start comes first, and then the one with the
+/// lower end, so that a requirement that leaves fewer versions comes first.
 #[derive(Clone, Debug, PartialEq, Eq, Hash)]
 pub struct PackageReq {
     /// The name, such as `@scope/name`.
@@ -91,7 +91,7 @@ impl PackageReq {
         Ok((PackageReq { name: name.into(), version_req }, path))
     }
 
-    /// `name@requirement`, with the canonical form of the requirement, as it is stored.
+    /// `name@requirement`, with the canonical form of the requirement, to be stored.
     pub fn to_string_normalized(&self) -> StackString {
         StackString::concat(&[&self.name, "@", self.version_req.normalized()])
     }
@@ -114,7 +114,7 @@ impl Ord for PackageReq {
 pub struct PackageReqReference {
     /// The package.
     pub req: PackageReq,
-    /// The path behind it.
+    /// The path after it.
     pub sub_path: Option<PackageSubPath>,
 }
 
@@ -174,7 +174,7 @@ impl PackageNv {
     }
 }
 
-// The message of the library for a text that it rejects.
+// The message of the library for a string that it rejects.
 fn message(parts: Result<String, String>) -> String {
     parts.err().unwrap_or_else(|| "Unexpected character.".to_owned())
 }
@@ -190,7 +190,7 @@ impl fmt::Debug for PackageNv {
 pub struct PackageNvReference {
     /// The package.
     pub nv: PackageNv,
-    /// The path behind it.
+    /// The path after it.
     pub sub_path: Option<PackageSubPath>,
 }
 
@@ -265,14 +265,14 @@ pub mod json {
     }
 }
 
-/// What is wrong with the text of a package.
+/// What is wrong with the string of a package.
 #[derive(Clone, Debug, PartialEq, Eq)]
 pub enum PackageReqPartsParseError {
     /// The name is empty.
     NoPackageName,
     /// There is a scope and no name.
     InvalidPackageName,
-    /// There is a `/`, and the text doesn't begin with `@`.
+    /// There is a `/`, and the string doesn't begin with `@`.
     MissingAtSymbol,
     /// The requirement is invalid, by the strict grammar, or a path follows it.
     SpecifierVersionReq(VersionReqSpecifierParseError),
@@ -309,10 +309,10 @@ impl PackageReqPartsParseError {
     }
 }
 
-/// Why a text isn't a package with a requirement.
+/// Why a string isn't a package with a requirement.
 #[derive(Clone, Debug, PartialEq, Eq)]
 pub struct PackageReqParseError {
-    /// The text.
+    /// The string.
     pub text: String,
     /// What is wrong with it.
     pub source: PackageReqPartsParseError,
@@ -326,7 +326,7 @@ impl PackageReqParseError {
         self.source.message()
     }
 
-    /// Where the text is invalid: in its requirement, or at the part that is missing, or at a path.
+    /// Where the string is invalid: in its requirement, at a part that is missing, or at a path.
     ///
     /// ```
     /// use deno_semver_proved::package::PackageReq;
@@ -339,10 +339,10 @@ impl PackageReqParseError {
     }
 }
 
-/// Why a text isn't a reference to a package.
+/// Why a string isn't a reference to a package.
 #[derive(Clone, Debug, PartialEq, Eq)]
 pub enum PackageReqReferenceParseError {
-    /// The text doesn't begin with this scheme.
+    /// The string doesn't begin with this scheme.
     NotExpectedScheme(PackageKind),
     /// The package is invalid.
     Invalid(Box<PackageReqReferenceInvalidParseError>),
@@ -353,14 +353,14 @@ pub enum PackageReqReferenceParseError {
 /// A reference whose package is invalid.
 #[derive(Clone, Debug, PartialEq, Eq)]
 pub struct PackageReqReferenceInvalidParseError {
-    /// The text.
+    /// The string.
     pub specifier: String,
     /// What is wrong with it.
     pub source: PackageReqPartsParseError,
 }
 
 impl PackageReqReferenceInvalidParseError {
-    /// Where the text is invalid, as for [`PackageReqParseError::place`].
+    /// Where the string is invalid, as for [`PackageReqParseError::place`].
     pub fn place(&self) -> Option<Place> {
         first_error(|out, needed| semver_reference_errors(&self.specifier, out, needed))
     }
@@ -371,9 +371,9 @@ impl PackageReqReferenceInvalidParseError {
 pub struct PackageReqReferenceInvalidWithVersionParseError {
     /// The registry.
     pub kind: PackageKind,
-    /// What is written, without the scheme.
+    /// What you wrote, without the scheme.
     pub current: String,
-    /// What may be meant.
+    /// What you may have meant.
     pub suggested: String,
 }
 
@@ -421,7 +421,7 @@ macro_rules! version_error {
         pub struct $name {
             /// What is wrong, in one line.
             pub message: String,
-            /// The text.
+            /// The string.
             pub text: String,
         }
 
@@ -430,12 +430,12 @@ macro_rules! version_error {
 }
 
 version_error!(
-    /// Why a text isn't a package with a version.
+    /// Why a string isn't a package with a version.
     PackageNvParseError,
     "Invalid package name and version"
 );
 version_error!(
-    /// Why a text isn't a reference to a package with a version.
+    /// Why a string isn't a reference to a package with a version.
     PackageNvReferenceParseError,
     "Invalid package name and version reference"
 );
@@ -455,7 +455,7 @@ macro_rules! reference {
                 $name(inner)
             }
 
-            /// Parses the reference that is a URL, such as a `url::Url`.
+            /// Parses a reference that is a URL, such as a `url::Url`.
             pub fn from_specifier(specifier: &impl AsRef<str>) -> Result<$name, $crate::package::$error> {
                 $name::from_str(specifier.as_ref())
             }
@@ -471,7 +471,7 @@ macro_rules! reference {
                 &self.0.$package
             }
 
-            /// The path behind the package.
+            /// The path after the package.
             pub fn sub_path(&self) -> Option<&str> {
                 self.0.sub_path.as_deref()
             }
@@ -493,7 +493,7 @@ macro_rules! references {
             $(#[$req_doc])*
             #[derive(Clone, Debug, PartialEq, Eq, Hash)]
             $req, $kind, PackageReqReference,
-            /// Parses a reference, whose requirement is of the strict grammar.
+            /// Parses a reference. Its requirement has the strict grammar.
             PackageReqReferenceParseError,
             /// The package with its requirement.
             req: PackageReq

@@ -1,5 +1,5 @@
-//! Partial versions, such as `1.2.*`, and the ranges that they mean in a requirement. Each is the range of a text that the proved library
-//! parses.
+//! Partial versions, such as `1.2.*`, and the ranges that they mean in a requirement. The proved library parses a string for each such
+//! range.
 
 use crate::calls::Grammar;
 use crate::error::display;
@@ -9,7 +9,7 @@ use crate::version::VersionPreOrBuild;
 use crate::version_req::VersionReq;
 use crate::CowVec;
 
-/// A number of a partial version, or any.
+/// A number of a partial version, or any number.
 #[derive(Clone, Copy, Debug, PartialEq, Eq)]
 pub enum XRange {
     /// Any number.
@@ -29,7 +29,7 @@ display! {
     };
 }
 
-/// A version of which numbers may be left open. Its methods panic if a number of a bound is larger than a `u64`.
+/// A version whose numbers may be left open. Its methods panic if a bound needs a number that is too large for a `u64`.
 #[derive(Clone, Debug, PartialEq, Eq)]
 pub struct Partial {
     /// The first number.
@@ -44,7 +44,7 @@ pub struct Partial {
     pub build: CowVec<VersionPreOrBuild>,
 }
 
-/// The only range of a text.
+/// The only range of a string.
 fn range(grammar: Grammar, text: &str) -> VersionRange {
     let req = VersionReq::parse(grammar, text).unwrap_or_else(|error| panic!("{text}: {}", error.message));
     match req.range() {
@@ -55,12 +55,12 @@ fn range(grammar: Grammar, text: &str) -> VersionRange {
 }
 
 impl Partial {
-    /// The range of `~` before this.
+    /// The range of this after `~`.
     pub fn as_tilde_version_range(&self) -> VersionRange {
         range(Grammar::Strict, &format!("~{self}"))
     }
 
-    /// The range of `^` before this.
+    /// The range of this after `^`.
     pub fn as_caret_version_range(&self) -> VersionRange {
         range(Grammar::Strict, &format!("^{self}"))
     }
@@ -70,19 +70,19 @@ impl Partial {
         range(Grammar::Strict, &self.to_string())
     }
 
-    /// The range of `>=` before this, or of `>`.
+    /// The range of this after `>=` or `>`.
     pub fn as_greater_than(&self, start_kind: VersionBoundKind) -> VersionRange {
         let equals = if start_kind == VersionBoundKind::Inclusive { "=" } else { "" };
         range(Grammar::Normalized, &format!(">{equals}{self}"))
     }
 
-    /// The range of `<=` before this, or of `<`.
+    /// The range of this after `<=` or `<`.
     pub fn as_less_than(&self, end_kind: VersionBoundKind) -> VersionRange {
         let equals = if end_kind == VersionBoundKind::Inclusive { "=" } else { "" };
         range(Grammar::Normalized, &format!("<{equals}{self}"))
     }
 
-    /// The range of this alone without its pre-release and build. If its start is exclusive, so is its end.
+    /// The range of this alone, without its pre-release and build. If the start is exclusive, so is the end.
     pub fn as_greater_range(&self, start_kind: VersionBoundKind) -> VersionRange {
         let range = Partial { pre: CowVec::new(), build: CowVec::new(), ..*self }.as_equal_range();
         let of_kind = |bound: RangeBound| match bound {

@@ -1,10 +1,10 @@
-//! The ranges of a requirement as values that callers take apart and build. Their rules are in `own`.
+//! The ranges of a requirement, as values that callers take apart and build. `own` has their rules.
 
 use crate::string::StackString;
 use crate::version::Version;
 use crate::CowVec;
 
-/// The name that a registry gives a version.
+/// A name that a registry gives a version.
 pub type PackageTag = StackString;
 
 /// Whether a bound includes its version.
@@ -28,7 +28,7 @@ pub struct VersionBound {
 }
 
 impl VersionBound {
-    /// A bound of its kind and version.
+    /// A bound of this kind, at this version.
     pub fn new(kind: VersionBoundKind, version: Version) -> VersionBound {
         VersionBound { kind, version }
     }
@@ -55,7 +55,7 @@ impl RangeBound {
         RangeBound::version(VersionBoundKind::Exclusive, version)
     }
 
-    /// A bound of its kind and version.
+    /// A bound of this kind, at this version.
     pub fn version(kind: VersionBoundKind, version: Version) -> RangeBound {
         RangeBound::Version(VersionBound::new(kind, version))
     }
@@ -83,12 +83,12 @@ impl VersionRange {
     }
 }
 
-/// Ranges of which a version matches one.
+/// Several ranges. A version matches the set if it matches one of them.
 #[derive(Clone, Debug, PartialEq, Eq, Hash)]
 #[cfg_attr(feature = "serde", derive(serde::Serialize, serde::Deserialize))]
 pub struct VersionRangeSet(pub CowVec<VersionRange>);
 
-/// What a requirement asks for: versions of some ranges, or the one with a tag.
+/// What a requirement asks for: versions that some ranges match, or the version with a tag.
 #[derive(Clone, Debug, PartialEq, Eq, Hash)]
 pub enum RangeSetOrTag {
     /// Ranges.

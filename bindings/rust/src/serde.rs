@@ -1,4 +1,4 @@
-//! The JSON of the types: a text for what has a canonical form, and an object for a requirement.
+//! The JSON of the types: a string for what has a canonical form, and an object for a requirement.
 
 use crate::jsr::{JsrDepPackageReq, JsrPackageNvReference};
 use crate::npm::NpmPackageNvReference;

@@ -4,7 +4,7 @@ use crate::calls::{failed, with_text, NO, NO_INCREMENT, YES};
 use crate::externs::{semver_coerce, semver_difference, semver_increment};
 use crate::Version;
 
-/// A kind of release, by which step a version comes next.
+/// The kind of a step to the next version.
 #[derive(Clone, Copy, Debug, PartialEq, Eq)]
 #[repr(u32)]
 pub enum ReleaseType {
@@ -26,7 +26,7 @@ pub enum ReleaseType {
     Release = 7,
 }
 
-/// The number behind the identifiers of a first pre-release.
+/// The number after the identifiers of a first pre-release.
 #[derive(Clone, Copy, Debug, Default, PartialEq, Eq)]
 #[repr(u32)]
 pub enum Base {
@@ -50,7 +50,7 @@ pub enum Coerced {
     Last = 1,
 }
 
-/// Why no version follows.
+/// Why there is no next version.
 #[derive(Clone, Debug, PartialEq, Eq)]
 pub struct IncrementError {
     /// What is wrong, in one line.
@@ -62,10 +62,12 @@ crate::error::errors! {
 }
 
 impl Version {
-    /// The next version of a kind, without a build. A pre-release begins with `identifiers`, with `.` between them, and the number of
-    /// `base`. One that begins so already, and goes on with a number, is raised in its last number; without identifiers any is.
+    /// The next version of a kind, without a build. A first pre-release has `identifiers`, with `.` between them, and then the number of
+    /// `base`. [`ReleaseType::PreRelease`] raises the last number of a pre-release, if the pre-release begins with the identifiers and goes
+    /// on with a number, or if you give no identifiers.
     ///
-    /// The next release of a pre-release may be its own. A pre-release that gets other identifiers may come before the version.
+    /// After a pre-release, the next release may be its own. A pre-release that gets other identifiers may come before the version that you
+    /// raise.
     ///
     /// ```
     /// use deno_semver_proved::{Base, ReleaseType, Version};
@@ -88,8 +90,8 @@ impl Version {
         Ok(next.expect("the text of a version is one"))
     }
 
-    /// The version that a string holds, one to three numbers with a `.` between neighbours; none if there is no number. The numbers that are
-    /// missing are 0.
+    /// The version that a string holds: one to three numbers with a `.` between neighbours. A missing number is 0. None if there is no
+    /// number.
     ///
     /// ```
     /// use deno_semver_proved::{Coerced, Version};
@@ -106,7 +108,7 @@ impl Version {
         })
     }
 
-    /// Of which kind the step between two versions is, in either direction; none if they have the same precedence.
+    /// The kind of the step between two versions, in either direction; none if they have the same precedence.
     ///
     /// ```
     /// use deno_semver_proved::{ReleaseType, Version};

@@ -16,7 +16,7 @@ enum Text {
     Long(Arc<str>),
 }
 
-/// A string of 24 bytes that holds up to 22 bytes of text itself; copies of a longer one share their text.
+/// A string of 24 bytes that holds up to 22 bytes of text in itself; copies of a longer one share their text.
 #[derive(Clone, PartialEq, Eq)]
 pub struct StackString(Text);
 
@@ -76,7 +76,7 @@ impl StackString {
         *self = StackString::concat(&[self.as_str(), text]);
     }
 
-    /// The string with each occurrence of a text replaced by another.
+    /// The string, with each occurrence of a text replaced by another.
     pub fn replace(&self, from: &str, to: &str) -> StackString {
         StackString::from_string(self.as_str().replace(from, to))
     }

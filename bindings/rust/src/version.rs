@@ -29,16 +29,17 @@ pub struct VersionParts {
     pub minor: u64,
     /// The third number.
     pub patch: u64,
-    /// The identifiers of the pre-release; none of a release.
+    /// The identifiers of the pre-release; empty for a release.
     pub pre: CowVec<VersionPreOrBuild>,
     /// The identifiers of the build.
     pub build: CowVec<VersionPreOrBuild>,
 }
 
-/// A version. Its parts `major`, `minor`, `patch`, `pre` and `build` are read as fields; [`Version::from_parts`] makes one of them.
+/// A version. You read its parts `major`, `minor`, `patch`, `pre` and `build` as fields, and make a version of parts by
+/// [`Version::from_parts`].
 ///
-/// `Eq`, `Hash` and `Ord` include the build: the order is by precedence, then by build. A copy of a version with a pre-release or a build
-/// shares what this needs to be matched and compared, which is made once, when it is first asked for.
+/// `Eq`, `Hash` and `Ord` include the build: the order is by precedence, then by build. To compare a version with a pre-release or a build,
+/// or to match it again, the crate needs a value, which it makes once; all copies of the version share it.
 #[derive(Default)]
 pub struct Version {
     // The release of the three numbers. Its lists are empty, so there is nothing to drop.
@@ -55,7 +56,7 @@ pub(crate) struct Qualified {
     parsed: OnceLock<Parsed>,
 }
 
-/// What is made of its text when it is first needed.
+/// What is made of its string when it is first needed.
 struct Parsed {
     handle: VersionHandle,
     displayed: StackString,
@@ -98,7 +99,7 @@ impl Version {
         Version::parse_valid(text).ok_or_else(|| VersionParseError { source: Version::error(text) })
     }
 
-    /// Parses a version as npm does, which is the same.
+    /// Parses a version by npm's grammar, which is the same one.
     pub fn parse_from_npm(text: &str) -> Result<Version, NpmVersionParseError> {
         Version::parse_valid(text).ok_or_else(|| NpmVersionParseError { source: Version::error(text) })
     }
@@ -109,7 +110,7 @@ impl Version {
         ParseErrorFailureError::of_version(displayed.expect_err("the text isn't a version"), text)
     }
 
-    /// The version, or none where the text isn't one.
+    /// The version, or none if the string isn't one.
     #[inline(always)]
     pub(crate) fn parse_valid(text: &str) -> Option<Version> {
         let (numbers, is_release) = version_numbers(text)?;
@@ -122,7 +123,7 @@ impl Version {
         Version { release: ManuallyDrop::new(release), qualified }
     }
 
-    /// The version of these parts. It fails if an identifier isn't one.
+    /// The version of these parts. The call fails if an identifier is invalid.
     pub fn from_parts(parts: VersionParts) -> Result<Version, VersionParseError> {
         match Version::parse_valid(&parts.to_string()) {
             Some(version) if *version == parts => Ok(version),
@@ -133,8 +134,8 @@ impl Version {
         }
     }
 
-    /// The sort key, for a column of a database: printable ASCII without whitespace, whose bytes compare as the precedence of versions. No
-    /// key begins another, and the build has no part in it.
+    /// The sort key, for a column of a database: printable ASCII without whitespace. The bytes of two keys compare as their versions do by
+    /// precedence. No key begins another, and the build has no part in the key.
     ///
     /// ```
     /// # use deno_semver_proved::Version;
@@ -227,7 +228,7 @@ impl fmt::Debug for Version {
 }
 
 parse_error!(
-    /// Why a text isn't a version.
+    /// Why a string isn't a version.
     VersionParseError,
     "Invalid version"
 );

@@ -17,9 +17,9 @@ use std::hash::{Hash, Hasher};
 use std::ptr;
 use std::sync::{Arc, OnceLock};
 
-/// A version requirement: ranges, or a tag. Two are equal if they mean the same, whatever their texts.
+/// A version requirement: ranges, or a tag. Two are equal if they mean the same, whatever their strings.
 ///
-/// A copy shares what the requirement needs to match, which is made once, when it is first asked for.
+/// To match, the crate needs a value that it makes on the first such call; copies that you make later share it.
 #[derive(Clone)]
 pub struct VersionReq {
     text: StackString,
@@ -31,7 +31,7 @@ pub struct VersionReq {
 /// What a requirement is asked by.
 struct Parsed {
     handle: Requirement,
-    // The text that was parsed. It isn't that of the requirement if the caller gave both.
+    // The string that was parsed. It isn't that of the requirement if the caller gave both.
     text: StackString,
     grammar: Grammar,
     // The canonical form, or the tag.
@@ -73,7 +73,7 @@ impl VersionReq {
         VersionReq::parse(Grammar::Strict, text).map_err(|source| VersionReqSpecifierParseError { source })
     }
 
-    /// Parses a requirement as npm does.
+    /// Parses a requirement by npm's grammar.
     pub fn parse_from_npm(text: &str) -> Result<VersionReq, NpmVersionReqParseError> {
         VersionReq::parse(Grammar::Npm, text).map_err(|source| NpmVersionReqParseError { source })
     }
@@ -85,7 +85,7 @@ impl VersionReq {
         Ok(VersionReq { text: kept.into(), grammar, is_tag, parsed: Lazy::Later(OnceLock::new()) })
     }
 
-    /// The requirement of these ranges or this tag, with another text.
+    /// The requirement of these ranges or this tag, with another string.
     ///
     /// # Panics
     ///
@@ -157,7 +157,7 @@ impl VersionReq {
         answer(with_text(ask, |code, _| code)).unwrap_or_else(|| panic!("the requirement is the tag {self}"))
     }
 
-    /// Whether both overlap by their bounds; two tags do if they are the same.
+    /// Whether the bounds of both overlap; two tags overlap if they are the same.
     #[inline]
     pub fn intersects(&self, other: &VersionReq) -> bool {
         answer(semver_req_intersects(self.held(), other.held())) == Some(true)
@@ -171,8 +171,8 @@ impl VersionReq {
 
     /// What matches, as scans of an index on [`Version::sort_key`], by npm's rule for pre-releases or without it; none if this is a tag.
     ///
-    /// A version matches exactly if its key is in a scan of its kind. The scans of releases come first. Those of a kind are in ascending order,
-    /// with a gap between one and the next.
+    /// A version matches exactly if its key is in a scan of its kind. The scans of releases come first. Those of a kind are in ascending
+    /// order, with a gap between one and the next.
     ///
     /// ```
     /// # use deno_semver_proved::{PreRelease, VersionReq};
@@ -188,7 +188,7 @@ impl VersionReq {
         Some((0..count).map(|index| Scan::at(&scans, index)).collect())
     }
 
-    /// The order in which packages of one name stand.
+    /// The order of packages that have the same name.
     pub(crate) fn order(&self, other: &VersionReq) -> Ordering {
         ordering(semver_req_order(self.held(), other.held()))
     }
@@ -198,12 +198,12 @@ impl VersionReq {
         &self.parsed().normal
     }
 
-    /// The text that was parsed.
+    /// The string that was parsed.
     pub fn version_text(&self) -> &str {
         &self.text
     }
 
-    /// The canonical form, which is stored and parsed by [`VersionReq::parse_from_normalized`].
+    /// The canonical form, to be stored. [`VersionReq::parse_from_normalized`] parses it.
     pub fn to_string_normalized(&self) -> String {
         self.normalized().to_owned()
     }
@@ -250,12 +250,12 @@ impl fmt::Debug for VersionReq {
 }
 
 parse_error!(
-    /// Why a text isn't a requirement of the normalized grammar.
+    /// Why a string isn't a requirement of the normalized grammar.
     VersionReqNormalizedParseError,
     "Invalid normalized version requirement"
 );
 parse_error!(
-    /// Why a text isn't a requirement of the strict grammar.
+    /// Why a string isn't a requirement of the strict grammar.
     VersionReqSpecifierParseError,
     "Invalid specifier version requirement"
 );
