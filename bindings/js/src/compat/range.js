@@ -11,7 +11,7 @@ const MOST_READ = 1000;
 const LONGEST_READ = 256;
 const NOTHING = '<0.0.0-0';
 
-// What the ranges that were read last are, by their texts, for each of the four kinds of options; null for an invalid one.
+// For each of the four kinds of options; null for an invalid text.
 const readings = [new Map(), new Map(), new Map(), new Map()];
 
 export class Range {
@@ -29,7 +29,7 @@ export class Range {
       this.set = [[range]];
       this.format();
     } else {
-      const reading = readingOf(range, settings) ?? read(range, settings); // which throws
+      const reading = expectReading(range, settings);
       this.raw = reading.raw;
       this.set = [...reading.set];
       this.range = reading.range;
@@ -75,17 +75,30 @@ export function expectReadable(range, options) {
   return readable(range, options) ?? new Range(range, options);
 }
 
-/** What a text reads as; null where it's invalid. */
-function readingOf(text, options) {
-  const known = readings[(options.loose ? 2 : 0) + (options.includePrerelease ? 1 : 0)];
-  const found = known.get(text);
-  if (found !== undefined) return found;
-  const reading = orNull(() => read(text, options));
+/** What the ranges that were read last are, by their texts. */
+function knownOf(options) {
+  return readings[(options.loose ? 2 : 0) + (options.includePrerelease ? 1 : 0)];
+}
+
+/** Keeps what a text reads as, and returns it. */
+function keep(text, options, reading) {
+  const known = knownOf(options);
   if (text?.length <= LONGEST_READ) {
     if (known.size >= MOST_READ) known.delete(known.keys().next().value);
     known.set(text, reading);
   }
   return reading;
+}
+
+/** What a text reads as; null where it's invalid. */
+function readingOf(text, options) {
+  const found = knownOf(options).get(text);
+  return found === undefined ? keep(text, options, orNull(() => read(text, options))) : found;
+}
+
+/** The same, and `TypeError` where it's invalid. */
+function expectReading(text, options) {
+  return knownOf(options).get(text) ?? keep(text, options, read(text, options));
 }
 
 function orNull(call) {
