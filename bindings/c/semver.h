@@ -33,7 +33,7 @@
 extern "C" {
 #endif
 
-/* the grammars of ranges */
+/* the grammars of ranges; each also takes a tag */
 enum {
     SEMVER_NPM = 0,        /* npm's grammar of ranges */
     SEMVER_NORMALIZED = 1, /* comparators separated by whitespace, alternatives by || */
@@ -70,7 +70,7 @@ enum {
     SEMVER_INVALID_RANGE = -2,   /* a range, a package or a reference is invalid */
     SEMVER_INVALID_VERSION = -3,
     SEMVER_NOT_UTF8 = -4,        /* bytes aren't valid UTF-8 */
-    SEMVER_NO_GRAMMAR = -5,      /* no grammar has this number; or no kind of step, base or other choice of the call */
+    SEMVER_NO_GRAMMAR = -5,      /* no grammar, kind of step, base or other choice of the call has this number */
     SEMVER_NO_MEMORY = -6,       /* out of memory */
     SEMVER_NO_VALUE = -7,        /* a handle is empty, or holds a value of another kind */
     SEMVER_NO_INCREMENT = -8     /* there is no next version, or the identifiers of its pre-release are invalid */
@@ -134,10 +134,11 @@ int32_t semver_increment(uint32_t release_type, const char *version, size_t vers
  * may have leading zeros; one above 18446744073709551615 belongs to no version. `first_or_last` is SEMVER_FIRST or SEMVER_LAST. */
 int32_t semver_coerce(uint32_t first_or_last, const char *text, size_t text_len, char *out, size_t out_len, size_t *needed);
 
-/* The kind of the step between two versions, in either direction. It is the kind of the first number that differs, such as SEMVER_MINOR,
- * or SEMVER_PREMINOR if the higher version is a pre-release. Between two pre-releases of the same numbers it is SEMVER_PRERELEASE. From
- * a pre-release to its own release, it is the kind of that release. From a pre-release of a major version to any release, it is
- * SEMVER_MAJOR. SEMVER_NO_DIFFERENCE if the versions have the same precedence. */
+/* The kind of the step between two versions, in either direction. It is the kind of the first number that differs, such as SEMVER_MINOR, or
+ * SEMVER_PREMINOR if the higher version is a pre-release. Between two pre-releases of the same numbers it is SEMVER_PRERELEASE. From a
+ * pre-release to its own release, it is SEMVER_PATCH if the release's patch isn't 0, else SEMVER_MINOR if its minor isn't 0, else
+ * SEMVER_MAJOR. From a pre-release of a major version to any release, it is SEMVER_MAJOR. SEMVER_NO_DIFFERENCE if the versions have the
+ * same precedence. */
 int32_t semver_difference(const char *one, size_t one_len, const char *other, size_t other_len, size_t *place);
 
 /* Whether the bounds of two ranges overlap: NO or YES. There may be no version between them; semver_common is exact. Two tags overlap if
@@ -187,8 +188,8 @@ int32_t semver_version_numbers(const char *version, size_t version_len, uint64_t
 /* Whether the string may be a tag, by npm's rules: NO or YES. */
 int32_t semver_may_be_tag(const char *text, size_t text_len);
 
-/* The alternatives of a range in their order, as JSON: YES or TAG. Each has the members "end" and "start", its bounds. A bound is null,
- * or an object with "inclusive" (whether the version itself lies within) and "version". */
+/* The alternatives of a range in their order, without those that are invalid or end below 0.0.0, as JSON: YES or TAG. Each has the members
+ * "end" and "start", its bounds. A bound is null, or an object with "inclusive" (whether the version itself lies within) and "version". */
 int32_t semver_ranges(uint32_t grammar, const char *range, size_t range_len, char *out, size_t out_len, size_t *needed);
 
 /* What a range means, as JSON: YES or TAG. The members are "alternatives" (in their order) and "normal" (the canonical form). An
@@ -200,8 +201,8 @@ int32_t semver_explain(uint32_t grammar, const char *range, size_t range_len, ui
 
 /* What is wrong with a range, as JSON: YES, with an array of its invalid alternatives in their order. Each has "message", "start" (the
  * index of the byte at which it goes wrong), "end" (where it ends), and "expected" (what could stand at "start": "digit", "letter",
- * "whitespace", "end", or a string such as "."). A tag is an invalid alternative, too. In the strict grammar the whole string is one
- * alternative. */
+ * "whitespace", "end", or a string such as "."). If the range is a tag, that counts as an invalid alternative, too. In the strict grammar
+ * the whole string is one alternative. */
 int32_t semver_errors(uint32_t grammar, const char *range, size_t range_len, char *out, size_t out_len, size_t *needed);
 
 /* Where a string stops being a version: YES, and `*place` is the index of the first wrong byte: no version begins with the bytes up to
@@ -315,7 +316,7 @@ int32_t semver_req_matches_release(const semver_req *handle, uint64_t major, uin
 /* Whether the bounds of two ranges overlap: like semver_intersects. */
 int32_t semver_req_intersects(const semver_req *one, const semver_req *other);
 
-/* Whether two ranges mean the same, whatever strings they were parsed from: NO or YES. */
+/* Whether two ranges have the same bounds in the same order, or are the same tag, whatever strings they were parsed from: NO or YES. */
 int32_t semver_req_equal(const semver_req *one, const semver_req *other);
 
 /* The order of two ranges: BEFORE, SAME or AFTER. A tag comes before ranges, and of two tags the greater comes first. Of two ranges the
@@ -326,11 +327,11 @@ int32_t semver_req_order(const semver_req *one, const semver_req *other);
 /* The string that the range was parsed from: YES. npm's grammar trims it. */
 int32_t semver_req_text(const semver_req *handle, char *out, size_t out_len, size_t *needed);
 
-/* The canonical form of the range; and the version as it is displayed: YES or NO_MEMORY. */
+/* semver_req_normal writes the canonical form of the range, and semver_version_text the version as it is displayed: YES. */
 int32_t semver_req_normal(const semver_req *handle, char *out, size_t out_len, size_t *needed);
 int32_t semver_version_text(const semver_ver *handle, char *out, size_t out_len, size_t *needed);
 
-/* The sort key of the version, like semver_key: YES or NO_MEMORY. */
+/* The sort key of the version: like semver_key. */
 int32_t semver_version_key(const semver_ver *handle, char *out, size_t out_len, size_t *needed);
 
 /* The order of two versions: like semver_compare. */

@@ -66,7 +66,7 @@ export class SemVer {
 
 /** An operator and a version, or any version. */
 export class Comparator {
-  /** The value of {@link Comparator.semver} if any version matches the comparator. */
+  /** The value of {@link Comparator.semver} if every version matches the comparator. */
   static readonly ANY: symbol;
   /**
    * Parses a comparator.
@@ -130,7 +130,7 @@ export const RELEASE_TYPES: readonly ReleaseType[];
 export function parse(version: string | SemVer | null | undefined, options?: Loose, throwErrors?: boolean): SemVer | null;
 /** The version without its build; null where it's invalid. */
 export function valid(version: string | SemVer | null | undefined, options?: Loose): string | null;
-/** The same as {@link valid}, but `=` and `v` may stand before the version. */
+/** The same as {@link valid}, but any number of `=` and `v` may stand before the version. */
 export function clean(version: string, options?: Loose): string | null;
 /** The first number. */
 export function major(version: string | SemVer, options?: Loose): number;
@@ -195,13 +195,13 @@ export function outside(version: string | SemVer, range: string | Range | Compar
 export function gtr(version: string | SemVer, range: string | Range | Comparator, options?: Loose): boolean;
 /** {@link outside} with `<`. */
 export function ltr(version: string | SemVer, range: string | Range | Comparator, options?: Loose): boolean;
-/** A range that matches the same of these versions as the given one, if its string is shorter; else the given one. */
+/** A range that matches the same versions of this list as the given range, if its string is shorter; else the given range. */
 export function simplifyRange<T extends string | Range>(versions: readonly string[], range: T, options?: Loose): string | T;
 
 /** The kind of a step to the next version. */
 export type ReleaseType = 'major' | 'premajor' | 'minor' | 'preminor' | 'patch' | 'prepatch' | 'prerelease' | 'release';
 
-/** How {@link inc} raises a version: to the next one of a kind, or, by `pre`, only in its pre-release; a release then gets one. */
+/** How {@link inc} raises a version: to the next one of a kind. `pre` raises only the pre-release, and gives one to a release. */
 type Step = ReleaseType | 'pre';
 
 /** The first number of a pre-release; `false` for none. */

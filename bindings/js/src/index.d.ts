@@ -122,7 +122,7 @@ export class Version {
   toJSON(): string;
 }
 
-/** The sort keys from `low` on and below `high`, of releases or of pre-releases that a range matches. */
+/** The sort keys at or above `low` and below `high`, of the releases or the pre-releases that a range matches. */
 export interface Scan {
   /** Whether it is about pre-releases. */
   isPre: boolean;
@@ -155,7 +155,7 @@ export class Range {
   matches(version: string | Version): boolean;
   /** Whether the bounds of both ranges overlap. Two tags overlap if they are the same. */
   intersects(other: string | Range): boolean;
-  /** Whether both ranges have the same bounds, or are the same tag, whatever their strings. */
+  /** Whether both ranges have the same bounds in the same order, or are the same tag, whatever their strings. */
   equals(other: string | Range): boolean;
   /**
    * What the range matches, as scans of an index on {@link Version.sortKey}: a version matches exactly if its key is in a scan of its

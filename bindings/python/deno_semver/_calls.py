@@ -96,7 +96,8 @@ def read(name: str, *arguments: Any, after: Tuple[Any, ...] = ()) -> Tuple[int, 
 
 
 def hold(name: str, *arguments: Any) -> Tuple[int, str, Handle]:
-    """The code of a call that holds a value, and the handle; with it the text of the value, empty if that is long, or an error message.
+    """Puts a value into a handle by a call. Returns its code, a text and the handle. The text is the value's (empty if that is long), or an
+    error message.
 
     A call isn't repeated once the handle has a value."""
     handle, needed, size, out = Handle(), c_size_t(), SHORT, Short()
@@ -119,7 +120,7 @@ def _written(name: str, *arguments: Any) -> str:
 
 
 def _fail_unless_invalid(code: int, text: str, index: Optional[int] = None) -> None:
-    """Raises what a code means that isn't about an invalid text."""
+    """Raises the error that the code means, unless that is about an invalid text."""
     if code == NO_MEMORY:
         raise MemoryError
     if code == TAG:
@@ -139,7 +140,7 @@ def invalid_range(text: str, message: str, parts: Dict[str, Any], index: Optiona
 
 
 def fail_range(code: int, text: str, grammar: int, index: Optional[int] = None) -> NoReturn:
-    """Raises what a code other than that of an answer means for a range."""
+    """Raises the error that a negative code means for a range."""
     _fail_unless_invalid(code, text, index)
     source = text.encode()
     message = _written("normal", grammar, source, len(source))
@@ -148,7 +149,7 @@ def fail_range(code: int, text: str, grammar: int, index: Optional[int] = None) 
 
 
 def fail_version(code: int, text: str, index: Optional[int] = None) -> NoReturn:
-    """Raises what a code other than that of an answer means for a version."""
+    """Raises the error that a negative code means for a version."""
     _fail_unless_invalid(code, text, index)
     source, place = text.encode(), c_size_t()
     message = _written("version", source, len(source))
@@ -157,7 +158,7 @@ def fail_version(code: int, text: str, index: Optional[int] = None) -> NoReturn:
 
 
 def fail_package(code: int, text: str, message: str, errors: str = "", *options: int) -> NoReturn:
-    """Raises what a code other than that of an answer means for a package; the call `errors` finds where it is invalid."""
+    """Raises the error that a negative code means for a package; the call `errors` finds where it is invalid."""
     _fail_unless_invalid(code, text)
     source = text.encode()
     found = json.loads(_written(errors, *options, source, len(source))) if errors else []

@@ -149,8 +149,8 @@ class Version:
 
     @property
     def sort_key(self) -> str:
-        """The sort key, for a column of a database: printable ASCII without whitespace. Keys compare as `precedes` compares versions, also
-        as bytes, and no key begins another.
+        """The sort key, for a column of a database: printable ASCII without whitespace. Keys compare as `precedes` compares versions,
+        whether as strings or as bytes, and no key begins another.
 
         >>> Version("1.10.0-beta.2").sort_key
         'A1B10A0-$beta!#A22!!'
@@ -199,7 +199,7 @@ class Version:
 
 
 class Scan(NamedTuple):
-    """The sort keys from `low` on and below `high`: of pre-releases if `is_pre` is true, else of releases."""
+    """The sort keys at or above `low` and below `high`: of pre-releases if `is_pre` is true, else of releases."""
 
     is_pre: bool
     low: str
@@ -228,8 +228,8 @@ class Range:
     >>> "1.5.0" in range, "2.0.0" in range
     (True, False)
 
-    Ranges are equal if they mean the same, whatever strings they were parsed from. `grammar` is "npm", "normalized" (comparators separated
-    by whitespace, alternatives by `||`) or "strict" (the grammar of package specifiers).
+    Ranges are equal if they have the same bounds in the same order, or are the same tag, whatever strings they were parsed from. `grammar`
+    is "npm", "normalized" (comparators separated by whitespace, alternatives by `||`) or "strict" (the grammar of package specifiers).
     """
 
     __slots__ = ("_held", "_text", "_grammar", "_canonical", "_is_tag", "__weakref__")

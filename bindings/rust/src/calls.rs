@@ -84,7 +84,7 @@ pub(crate) fn message(grammar: Grammar, text: &str) -> String {
     with_text(|out, needed| semver_is_tag(grammar as u32, text, out, needed), |_, message| message.to_owned())
 }
 
-/// The three numbers of a version, and whether it has neither a pre-release nor a build; none of a text that isn't a version.
+/// The three numbers of a version, and whether it has neither a pre-release nor a build. None for a text that isn't a version.
 #[inline]
 pub(crate) fn version_numbers(text: &str) -> Option<([u64; 3], bool)> {
     let mut numbers = [0; 3];
@@ -95,7 +95,7 @@ pub(crate) fn version_numbers(text: &str) -> Option<([u64; 3], bool)> {
     }
 }
 
-/// The answer of a call that has one of two; none if a range is a tag.
+/// The answer of a call that answers yes or no. None if a range is a tag.
 #[inline]
 pub(crate) fn answer(code: i32) -> Option<bool> {
     match code {

@@ -29,7 +29,7 @@ fn bound(value: &str) -> RangeBound {
     RangeBound::version(kind, Version::parse_standard(version).expect(SHAPE))
 }
 
-/// The first of the errors that a call writes, each with the members "end", "expected", "message" and "start"; none of an empty array.
+/// The first of the errors that a call writes, each with the members "end", "expected", "message" and "start". None for an empty array.
 pub(crate) fn first_error(call: impl FnMut(&mut [u8], &mut usize) -> i32) -> Option<Place> {
     with_text(call, |_, json| json.strip_prefix("[{\"end\":").map(place))
 }

@@ -76,7 +76,7 @@ error::errors! {
 #[doc = include_str!("../README.md")]
 struct Readme;
 
-/// Callers reach no handle, so none that is empty.
+/// Callers can't reach a handle, so they can't reach an empty one.
 ///
 /// ```compile_fail,E0603
 /// let handle: Option<deno_semver_proved::raw::Requirement> = None;

@@ -57,7 +57,7 @@ pub(crate) fn reference_path(path: &str, has_requirement: bool) -> Result<Option
     }
 }
 
-/// The path of a reference to one version, whose version is followed by this; none where it's no path.
+/// The path of a reference to one version, given what follows the version. None if that is no path.
 #[inline]
 pub(crate) fn version_reference_path(rest: &str) -> Option<Option<&str>> {
     match rest {
@@ -66,7 +66,7 @@ pub(crate) fn version_reference_path(rest: &str) -> Option<Option<&str>> {
     }
 }
 
-/// The registry of a dependency and its package, or the scheme in place of a registry's.
+/// The registry of a dependency and its package; or its scheme, if that is no registry's.
 pub(crate) fn dependency_parts(text: &str) -> Result<(PackageKind, &str), &str> {
     let kinds = [PackageKind::Jsr, PackageKind::Npm];
     let mut parts = kinds.into_iter().filter_map(|kind| Some((kind, text.strip_prefix(kind.scheme_with_colon())?)));

@@ -54,7 +54,8 @@ macro_rules! handle {
         unsafe impl Sync for $name {}
 
         impl $name {
-            /// The handle that a call reads into, which is never empty, and the text that the call writes. It is repeated if that is long.
+            /// The handle that a call reads into, which is never empty, and the text that the call writes. The call is repeated if the text
+            /// is long.
             pub(crate) fn read(mut call: impl FnMut(&mut $name, &mut [u8], &mut usize) -> i32) -> ($name, StackString) {
                 let mut handle = $name { at: ptr::null_mut() };
                 let read = |code, text: &str| if code == YES { text.into() } else { failed(code) };
@@ -97,7 +98,7 @@ handle!(
 /// How many bytes a short string has at most.
 pub(crate) const SHORT: usize = 22;
 
-/// A string of up to 22 bytes: the first `len` are UTF-8, and the others are 0. In this order they are copied faster.
+/// A string of up to 22 bytes: the first `len` are UTF-8, and the others are 0. With `len` first, it is copied faster.
 #[derive(Clone, Copy, PartialEq, Eq)]
 #[repr(C)]
 pub(crate) struct Short {

@@ -4,7 +4,7 @@ use crate::calls::answer;
 use crate::externs::semver_scan;
 use crate::raw::Scans;
 
-/// The sort keys from `low` on and below `high`, of releases or of pre-releases.
+/// The sort keys at or above `low` and below `high`, of releases or of pre-releases.
 #[derive(Clone, Debug, PartialEq, Eq)]
 pub struct Scan {
     /// Whether it is about pre-releases.

@@ -90,8 +90,8 @@ impl Version {
         Ok(next.expect("the text of a version is one"))
     }
 
-    /// The version that a string holds: one to three numbers with a `.` between neighbours. A missing number is 0. None if there is no
-    /// number.
+    /// The version that a string holds: one to three numbers with a `.` between neighbours. A missing number is 0. None if no number in the
+    /// string fits in a `u64`.
     ///
     /// ```
     /// use deno_semver_proved::{Coerced, Version};

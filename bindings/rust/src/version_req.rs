@@ -17,7 +17,8 @@ use std::hash::{Hash, Hasher};
 use std::ptr;
 use std::sync::{Arc, OnceLock};
 
-/// A version requirement: ranges, or a tag. Two are equal if they mean the same, whatever their strings.
+/// A version requirement: ranges, or a tag. Two are equal if they have the same bounds in the same order, or are the same tag, whatever
+/// their strings.
 ///
 /// To match, the crate needs a value that it makes on the first such call; copies that you make later share it.
 #[derive(Clone)]
@@ -28,7 +29,7 @@ pub struct VersionReq {
     parsed: Lazy,
 }
 
-/// What a requirement is asked by.
+/// What answers questions about a requirement.
 struct Parsed {
     handle: Requirement,
     // The string that was parsed. It isn't that of the requirement if the caller gave both.
