@@ -2,7 +2,7 @@
 //
 //     node speed.mjs [NODE_SEMVER]
 //
-// A time is the best of five runs.
+// A time is the best of five runs, in which both are asked in turn.
 
 import { createRequire } from 'node:module';
 import { performance } from 'node:perf_hooks';
@@ -20,31 +20,38 @@ const versions = Array.from({ length: 1000 }, (_, i) => `${i % 5}.${i % 17}.${i 
 const long = Array.from({ length: LIST }, (_, i) => versions[(i * 7919) % versions.length]);
 const RANGE = '>=1.2 <2 || 3';
 
-function best(call) {
-  const times = Array.from({ length: RUNS }, () => {
-    const start = performance.now();
-    call();
-    return performance.now() - start;
-  });
-  return Math.min(...times);
+/** The best time of each call, in milliseconds; of one that isn't there, undefined. */
+function best(calls) {
+  const times = calls.map((call) => call && Infinity);
+  for (let run = 0; run < RUNS; run++) {
+    calls.forEach((call, index) => {
+      if (!call) return;
+      const start = performance.now();
+      call();
+      times[index] = Math.min(times[index], performance.now() - start);
+    });
+  }
+  return times;
 }
 
-/** Nanoseconds of one call, which is given a number. */
-function each(call) {
+function print(name, here, there = '') {
+  console.log(`${name.padEnd(32)} ${here.padStart(10)} ${there.padStart(18)}`);
+}
+
+const shown = (time, unit, digits) => (time === undefined ? undefined : `${time.toFixed(digits)} ${unit}`);
+
+/** Prints the nanoseconds of one call here and there, which is given a number. */
+function each(name, here, there) {
   const count = 200_000;
-  const time = best(() => {
+  const repeated = [here, there].map((call) => call && (() => {
     for (let i = 0; i < count; i++) call(i);
-  });
-  return `${Math.round((time / count) * 1e6)} ns`;
+  }));
+  print(name, ...best(repeated).map((time) => shown(time && (time / count) * 1e6, 'ns', 0)));
 }
 
-/** Milliseconds of a call. */
-function once(call) {
-  return `${best(call).toFixed(1)} ms`;
-}
-
-function print(name, ours, theirs) {
-  console.log(`${name.padEnd(32)} ${ours.padStart(10)} ${(theirs ?? '').padStart(18)}`);
+/** Prints the milliseconds of a call here and there. */
+function once(name, here, there) {
+  print(name, ...best([here, there]).map((time) => shown(time, 'ms', 1)));
 }
 
 /** The sum of the numbers, so that each is asked. */
@@ -62,39 +69,36 @@ function fails(call) {
 const item = (i) => versions[i % versions.length];
 const range = new semver.Range(RANGE);
 const others = other && new other.Range(RANGE);
-const when = (call) => (other ? call() : undefined);
-
 const held = versions.map((text) => new semver.Version(text));
-const theirs = other && versions.map((text) => new other.SemVer(text));
-const both = (time, ask) => [time((...it) => ask(compat, ...it)), when(() => time((...it) => ask(other, ...it)))];
 const list = new semver.VersionList(long);
+const invalid = (i) => `^1.2.${i}.4`;
+
+/** Asks compat here, and node-semver there. */
+const both = (print, name, ask) => print(name, (...it) => ask(compat, ...it), other && ((...it) => ask(other, ...it)));
+const there = (call) => (other ? call : undefined);
+const comparing = (values) => values && ((i) => values[i % values.length].compare(values[(i * 7) % values.length]));
+const semvers = [compat, other].map((library) => library && versions.map((text) => new library.SemVer(text)));
 
 const modules = [new URL('out/package/index.js', import.meta.url).href];
 if (folder) modules.push(createRequire(import.meta.url).resolve(folder));
 const times = Array.from({ length: RUNS }, () => timesOfImports(modules));
-const [imported, importedThere] = modules.map((_, index) => `${Math.min(...times.map((it) => it[index])).toFixed(1)} ms`);
 
 print('', 'here', version && `node-semver ${version}`);
-print('import, in a fresh process', imported, importedThere);
-print('a version and a held range', each((i) => range.matches(item(i))), when(() => each((i) => others.test(item(i)))));
-print('two texts, satisfies', ...both(each, (library, i) => library.satisfies(item(i), RANGE)));
-print('two texts, matches', each((i) => semver.matches(RANGE, item(i))));
-const compareHeld = (values) => each((i) => values[i % values.length].compare(values[(i * 7) % values.length]));
-print('compare two held versions', compareHeld(held), when(() => compareHeld(theirs)));
-const [heldHere, heldThere] = [compat, other].map((library) => library && versions.map((text) => new library.SemVer(text)));
-print('compare two held SemVers', compareHeld(heldHere), when(() => compareHeld(heldThere)));
-print('compare', ...both(each, (library, i) => library.compare(item(i), '1.2.3')));
-print('valid', ...both(each, (library, i) => library.valid(item(i))));
-print('new SemVer', ...both(each, (library, i) => new library.SemVer(item(i))));
-const numbersOf = (Kind) => each((i) => numbers(new Kind(item(i))));
-print('the numbers of a text', numbersOf(semver.Version), when(() => numbersOf(other.SemVer)));
-print('an invalid range, satisfies', ...both(each, (library, i) => library.satisfies(item(i), `^1.2.${i}.4`)));
-const invalid = (i) => `^1.2.${i}.4`;
-const failing = (call) => each((i) => fails(() => call(i)));
-print('an invalid range, thrown', failing((i) => semver.matches(invalid(i), '1.0.0')), when(() => failing((i) => new other.Range(invalid(i)))));
-print('new Range', ...both(each, (library, i) => new library.Range(`^1.${i}.0`)));
-print('subset', ...both(each, (library, i) => library.subset(`^1.${i % 100}.0`, RANGE)));
-print(`filter ${LIST} versions`, once(() => semver.filter(RANGE, long)), when(() => once(() => long.filter((it) => others.test(it)))));
-print(`filter a held list of ${LIST}`, once(() => list.filter(range)));
-print(`maxSatisfying of ${LIST}`, ...both(once, (library) => library.maxSatisfying(long, RANGE)));
-print(`sort ${LIST}`, ...both(once, (library) => library.sort([...long])));
+print('import, in a fresh process', ...modules.map((_, index) => shown(Math.min(...times.map((it) => it[index])), 'ms', 1)));
+each('a version and a held range', (i) => range.matches(item(i)), there((i) => others.test(item(i))));
+both(each, 'two texts, satisfies', (library, i) => library.satisfies(item(i), RANGE));
+each('two texts, matches', (i) => semver.matches(RANGE, item(i)));
+each('compare two held versions', comparing(held), comparing(semvers[1]));
+each('compare two held SemVers', ...semvers.map(comparing));
+both(each, 'compare', (library, i) => library.compare(item(i), '1.2.3'));
+both(each, 'valid', (library, i) => library.valid(item(i)));
+both(each, 'new SemVer', (library, i) => new library.SemVer(item(i)));
+each('the numbers of a text', (i) => numbers(new semver.Version(item(i))), there((i) => numbers(new other.SemVer(item(i)))));
+both(each, 'an invalid range, satisfies', (library, i) => library.satisfies(item(i), invalid(i)));
+each('an invalid range, thrown', (i) => fails(() => semver.matches(invalid(i), '1.0.0')), there((i) => fails(() => new other.Range(invalid(i)))));
+both(each, 'new Range', (library, i) => new library.Range(`^1.${i}.0`));
+both(each, 'subset', (library, i) => library.subset(`^1.${i % 100}.0`, RANGE));
+once(`filter ${LIST} versions`, () => semver.filter(RANGE, long), there(() => long.filter((it) => others.test(it))));
+once(`filter a held list of ${LIST}`, () => list.filter(range));
+both(once, `maxSatisfying of ${LIST}`, (library) => library.maxSatisfying(long, RANGE));
+both(once, `sort ${LIST}`, (library) => library.sort([...long]));

@@ -90,15 +90,21 @@ function keep(text, options, reading) {
   return reading;
 }
 
-/** What a text reads as; null where it's invalid. */
+/** What a text reads as; null where it's invalid. Most invalid texts are found without an error, which costs ten times as much. */
 function readingOf(text, options) {
   const found = knownOf(options).get(text);
-  return found === undefined ? keep(text, options, orNull(() => read(text, options))) : found;
+  return found === undefined ? keep(text, options, hasOnlyComparators(text, options) ? orNull(() => read(text, options)) : null) : found;
 }
 
 /** The same, and `TypeError` where it's invalid. */
 function expectReading(text, options) {
   return knownOf(options).get(text) ?? keep(text, options, read(text, options));
+}
+
+function hasOnlyComparators(text, options) {
+  if (typeof text !== 'string') return false;
+  if (options.loose) return true; // which leaves others out
+  return alternativesOf(withSingleSpaces(text)).every((it) => desugar(it, options).every((token) => isComparator(token, options)));
 }
 
 function orNull(call) {
@@ -112,14 +118,22 @@ function orNull(call) {
 
 function read(text, options) {
   if (typeof text !== 'string') throw new TypeError(`range must be a string, a Range or a Comparator, not ${kindOf(text)}`);
-  const raw = text.trim().split(/\s+/).join(' ');
+  const raw = withSingleSpaces(text);
   const set = setOf(raw, options);
   return { raw, set, range: textOf(set) };
 }
 
+function withSingleSpaces(text) {
+  return text.trim().split(/\s+/).join(' ');
+}
+
+function alternativesOf(range) {
+  return range.split('||').map((text) => text.trim());
+}
+
 /** The alternatives of a range. Where one matches any version it is the only one, and those that match nothing are left out. */
 function setOf(range, options) {
-  const read = range.split('||').map((text) => comparatorsOf(text.trim(), options)).filter((comparators) => comparators.length > 0);
+  const read = alternativesOf(range).map((text) => comparatorsOf(text, options)).filter((comparators) => comparators.length > 0);
   if (read.length === 0) throw new TypeError(`Invalid SemVer Range: ${range}`);
   const set = read.filter(([first]) => first.value !== NOTHING);
   if (set.length === 0) return [read[0]];
