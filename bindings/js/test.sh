@@ -4,7 +4,7 @@
 # leaves out, since the machine lacks it, and stops at the first failure.
 #
 # usage: test.sh [speed]; with speed it prints the times of calls, beside node-semver's where that is installed.
-# OTHER_NODE is the path of another Node, of Node 18 for example, in which the tests run too.
+# OTHER_NODE is the path of another Node, of Node 18 for example, in which the tests run too, but for the time of an import.
 # NODE_SEMVER_SOURCE is a folder of node-semver's sources with its own tests, of Debian's by `apt-get source node-semver`.
 set -e
 here=$(cd "$(dirname "$0")" && pwd)
@@ -70,7 +70,7 @@ compare "$debian" 2000 & second=$!
 native
 suite
 node --expose-gc --test --test-reporter=dot "$here"/tests/*.test.mjs
-if [ -n "$OTHER_NODE" ]; then "$OTHER_NODE" --expose-gc --test --test-reporter=dot "$here"/tests/*.test.mjs; fi
+if [ -n "$OTHER_NODE" ]; then NODE_SEMVERS= "$OTHER_NODE" --expose-gc --test --test-reporter=dot "$here"/tests/*.test.mjs; fi
 "$here/tests/packed.sh" "$out"
 if has chromium; then node "$here/page/test.mjs"; else echo "JavaScript: no chromium, so the page isn't tried"; fi
 wait $first
