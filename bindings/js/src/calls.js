@@ -58,9 +58,9 @@ function linked(name) {
 export const wasm = Object.fromEntries(names.map((name) => [name, linked(name)]));
 
 /**
- * Makes the instance, or replaces one whose last call didn't return: where the stack or the time of a `vm` runs out, or the call traps. A call that asks
- * a value leaves it as it was, but one that is interrupted may leave the stack pointer moved, or the allocator between two states. What the
- * old instance held is lost. If this is interrupted itself, the next call begins it again.
+ * Makes the instance, or replaces one whose last call didn't return: where the stack or the time of a `vm` runs out, or the call traps. A
+ * call that asks a value leaves it as it was, but one that is interrupted may leave the stack pointer moved, or the allocator between two
+ * states. What the old instance held is lost. If this is interrupted itself, the next call begins it again.
  */
 function replace() {
   compiled ??= new WebAssembly.Module(bytesOfModule());

@@ -11,7 +11,7 @@ const MOST_READ = 1000;
 const LONGEST_READ = 256;
 const NOTHING = '<0.0.0-0';
 
-// For each of the four kinds of options; null for an invalid text.
+// What the last ranges read as, by their texts, for each of the four kinds of options; null for an invalid text.
 const readings = [new Map(), new Map(), new Map(), new Map()];
 
 export class Range {
@@ -75,7 +75,7 @@ export function expectReadable(range, options) {
   return readable(range, options) ?? new Range(range, options);
 }
 
-/** What the ranges that were read last are, by their texts. */
+/** What the last ranges read as with these options. */
 function knownOf(options) {
   return readings[(options.loose ? 2 : 0) + (options.includePrerelease ? 1 : 0)];
 }
