@@ -1,5 +1,5 @@
 -- The digits that a text begins with.
-use Rattle.std.proofs.Common.{◌≡◌, ◌<◌, ◌∷◌, ℕ, Bool, List, [], IsUtf8, Some, None, true, drop, suc, zero, length, refl, ap, sym, take, inl, inr, arith}
+use Rattle.std.proofs.Common.{◌≡◌, ◌<◌, ◌∷◌, ℕ, List, [], IsUtf8, Some, None, true, drop, suc, zero, length, refl, ap, sym, take, inl, inr, arith}
 use Rattle.std.specs.Char.{is_ascii_digit}
 use Rattle.std.proofs.lemmas.Bool.{cases_Bool}
 use Rattle.std.proofs.lemmas.List.Sums.{take_while-cons}
@@ -7,8 +7,7 @@ use Rattle.std.proofs.lemmas.Bool.Decides.{nat_tests}
 use Rattle.std.proofs.lemmas.Str.{IsUtf8-from_ascii}
 use Rattle.std.specs.Str.{IsAscii}
 use Rattle.semver_base.specs.Precedence.{number_of}
-use Rattle.node_semver.specs.declared.coerce.Run.{Run}
-use Rattle.node_semver.specs.Coerce.{first_run, leading_digits, leading_number, run_after}
+use Rattle.node_semver.specs.Coerce.{leading_digits, leading_number}
 
 -- as many bytes as there are digits are the digits
 pub digits_taken : (text : List ℕ) → take (length (leading_digits text)) text ≡ leading_digits text
@@ -25,7 +24,7 @@ more_ascii : (c : ℕ) (text : List ℕ) → c < 128 → IsAscii text → IsAsci
 more_ascii c text h k zero = h
 more_ascii c text h k (suc i) = k i
 
-digit_ascii : (c : ℕ) → is_ascii_digit c ≡ true → c < 128
+pub digit_ascii : (c : ℕ) → is_ascii_digit c ≡ true → c < 128
 digit_ascii c h = grind (arith, nat_tests)
 
 digits_ascii : (text : List ℕ) → IsAscii (leading_digits text)
@@ -45,8 +44,3 @@ number_found text rest n m len is at = rw (at, len, sym is) refl
 -- there is none
 pub no_number : (text : List ℕ) → None ≡ number_of (leading_digits text) → None ≡ leading_number text
 no_number text is = rw (sym is) refl
-
--- a run that the text begins with is its first one
-pub run_found : (after : Bool) (text : List ℕ) (run : Run) → 0 < length text → Some run ≡ run_after after text → Some run ≡ first_run after text
-run_found after [] run some is = absurd (omega (arith, some))
-run_found after (c ∷ text) run some is = rw (sym is) refl

@@ -1,4 +1,5 @@
 pub mod Above
+pub mod Behind
 pub mod Digits
 pub mod Inside
 pub mod Lowest

@@ -1,7 +1,6 @@
-//! Laws of coerced versions and of those that come next, each as the contract of a call, which does nothing: a caller cites what it ensures.
+//! Laws of versions that come next, each as the contract of a call, which does nothing: a caller cites what it ensures.
 
 ghost use Rattle.node_semver.specs.NextVersions.{IncrementsAreAbove, IncrementsReadBack, NextMajorsAreLowest, NextMinorsAreLowest, NextPatchesAreLowest};
-ghost use Rattle.node_semver.specs.Runs.{CoercedVersionsAreOfRuns};
 
 use semver_base::laws::version_texts_read_back;
 
@@ -24,9 +23,3 @@ pub fn increments_read_back()
 {
     version_texts_read_back();
 }
-
-/// The version that a string holds is that of its first run of numbers, or of the run that ends last; if there is none, the string has
-/// no run. No digit comes right before a run.
-pub fn coerced_versions_are_of_runs()
-    ensures { CoercedVersionsAreOfRuns }
-{}

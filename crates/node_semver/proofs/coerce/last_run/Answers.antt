@@ -1,0 +1,31 @@
+use Rattle.std.proofs.Common.{◌≡◌, ◌<◌, ◌∷◌, ◌+◌, drop, get_or, length}
+use Rattle.std.specs.Char.{is_ascii_digit}
+use Rattle.std.proofs.lemmas.List.{drop_all, drop_more}
+use Rattle.node_semver.specs.CoerceSteps.{IsRunAt}
+use Rattle.node_semver.proofs.Runs.{LastSoFar, last_step_none, last_step_some, none_in_nothing}
+use Rattle.node_semver.proofs.coerce.last_run.Goals as goal
+use Rattle.node_semver.proofs.coerce.last_run.Goals.{in-Some, in_default}
+
+pub loop-place-preserved : goal.loop-place-preserved
+loop-place-preserved c =
+    let l = c.loop-place in
+    let text = c.args.text.now in
+    let byte = get_or text l.place 0 in
+    let rest = drop (l.place + 1) text in
+    let place : l.place < length text = rw c.as_bytes-byte-items.ensures.value at c.loop-place-test.true in
+    let split : drop l.place text ≡ byte ∷ rest = drop_more text l.place 0 place in
+    let digit : c.is_ascii_digit-after_digit.result ≡ is_ascii_digit byte = rw c.as_bytes-byte-items.ensures.value at c.is_ascii_digit-after_digit.ensures.value in
+    let found : IsRunAt c.args.parts l.after_digit (byte ∷ rest) c.in_ok-run.field-0 = rw split at c.in_ok-run.ensures in
+    let before : LastSoFar c.args.parts text l.after_digit (byte ∷ rest) l.last = rw split at l.invariant in
+    elim c.match-branch-2.branch [
+      | in-Some w ↦ rw (digit, w.last-is, w.ending_last-last.ensures)
+          (last_step_some c.args.parts text l.after_digit byte rest l.last w.in-Some.run' before (rw w.in-Some.is at found))
+      | in_default w ↦ rw (digit, w.last-is) (last_step_none c.args.parts text l.after_digit byte rest l.last before (rw w.in_default.is at found))
+    ]
+
+pub returns : goal.returns
+returns c =
+    let l = c.loop-place in
+    let text = c.args.text.now in
+    let all = drop_all l.place text (rw c.as_bytes-byte-items.ensures.value at c.loop-place-test.false) in
+    l.invariant.none (rw all (none_in_nothing c.args.parts l.after_digit))
