@@ -55,6 +55,7 @@ static text cut(text *rest, int mark) {
 static const char *const KINDS[] = {"major", "minor", "patch", "premajor", "preminor", "prepatch", "prerelease", "release", "none"};
 static const char *const BASES[] = {"zero", "one", "nothing"};
 static const char *const ENDS[] = {"first", "last"};
+static const char *const PARTS[] = {"numbers", "all"};
 
 /* The number of a name among these, or one more than all have. */
 static uint32_t number_of(text t, const char *const *names, size_t count) {
@@ -280,9 +281,10 @@ static void increment(const text *t) {
     check_text(semver_increment(kind, BYTES(t[2]), BYTES(t[3]), base, OUT));
 }
 
-/* Which version, and the string that holds it. */
+/* Which version, which of its parts, and the string that holds it. */
 static void coerce(const text *t) {
-    check_text(semver_coerce(number_of(t[0], ENDS, sizeof ENDS / sizeof *ENDS), BYTES(t[1]), OUT));
+    uint32_t end = number_of(t[0], ENDS, sizeof ENDS / sizeof *ENDS), parts = number_of(t[1], PARTS, sizeof PARTS / sizeof *PARTS);
+    check_text(semver_coerce(end, BYTES(t[2]), parts, OUT));
 }
 
 static void difference(const text *t) {

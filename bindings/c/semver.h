@@ -131,8 +131,10 @@ int32_t semver_increment(uint32_t release_type, const char *version, size_t vers
                          char *out, size_t out_len, size_t *needed);
 
 /* The version that a string holds: YES or NO. In the string it is one to three numbers separated by "."; a missing number is 0. A number
- * may have leading zeros; one above 18446744073709551615 belongs to no version. `first_or_last` is SEMVER_FIRST or SEMVER_LAST. */
-int32_t semver_coerce(uint32_t first_or_last, const char *text, size_t text_len, char *out, size_t out_len, size_t *needed);
+ * may have leading zeros; one above 18446744073709551615 belongs to no version. `first_or_last` is SEMVER_FIRST or SEMVER_LAST. If
+ * `pre_releases` isn't 0, the version has the pre-release and the build that come right behind its numbers. */
+int32_t semver_coerce(uint32_t first_or_last, const char *text, size_t text_len, uint32_t pre_releases,
+                      char *out, size_t out_len, size_t *needed);
 
 /* The kind of the step between two versions, in either direction. It is the kind of the first number that differs, such as SEMVER_MINOR, or
  * SEMVER_PREMINOR if the higher version is a pre-release. Between two pre-releases of the same numbers it is SEMVER_PRERELEASE. From a

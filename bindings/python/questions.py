@@ -170,7 +170,8 @@ def of_texts(name, texts, options):
         kind, base, version, identifier = texts
         return ["yes", semver.increment(version, kind, identifier=identifier, base=BASES[base])]
     if name == "coerce":
-        version = semver.coerce(texts[1], rtl={"first": False, "last": True}[texts[0]])
+        end, parts, text = texts
+        version = semver.coerce(text, rtl={"first": False, "last": True}[end], pre_releases=parts == "all")
         return ["no"] if version is None else ["yes", version]
     if name == "difference":
         return [semver.difference(*texts) or "none"]

@@ -258,10 +258,10 @@ export function increment(version: string | Version, releaseType: ReleaseType, o
 
 /**
  * The first version in a string, one to three numbers with a dot between neighbours, or undefined. With `rtl` it is the one that ends
- * last.
+ * last. With `preReleases` it keeps the pre-release and the build that come right behind its numbers.
  * @example coerce('v3.4 replaces 3.3.1') // '3.4.0'
  */
-export function coerce(text: string, options?: { rtl?: boolean }): string | undefined;
+export function coerce(text: string, options?: { rtl?: boolean; preReleases?: boolean }): string | undefined;
 
 /**
  * The kind of the step between two versions, in either direction; `null` if they have the same precedence.

@@ -106,9 +106,11 @@ export function increment(version, releaseType, options = {}) {
 }
 
 export function coerce(source, options) {
-  expectOptions(options, ['rtl']);
+  expectOptions(options, ['rtl', 'preReleases']);
   const tested = expectString(source, 'text');
-  const code = ask1(wasm.coerce, expectBoolean(options?.rtl ?? false, 'options.rtl') ? 1 : 0, tested);
+  const { rtl = false, preReleases = false } = options ?? {};
+  const end = expectBoolean(rtl, 'options.rtl') ? 1 : 0;
+  const code = ask1(wasm.coerce, end, tested, expectBoolean(preReleases, 'options.preReleases') ? 1 : 0);
   if (code >= 0) return code === YES ? text() : undefined;
   throw errorOf(code, 0, [], [tested]);
 }

@@ -112,7 +112,8 @@ const CALLS = {
   sort: (text) => sortedPlaces(linesOf(text), semver.sort(linesOf(text))),
   list_sort: (text) => sortedPlaces(linesOf(text), new semver.VersionList(linesOf(text)).sort()),
   increment: (type, base, version, identifier) => ['yes', semver.increment(version, type, { identifier, base: BASES[base] ?? base })],
-  coerce: (end, text) => textOr(semver.coerce(text, { rtl: { first: false, last: true }[end] ?? end })),
+  coerce: (end, parts, text) =>
+    textOr(semver.coerce(text, { rtl: { first: false, last: true }[end] ?? end, preReleases: parts === 'all' })),
   difference: (one, other) => [semver.difference(one, other) ?? 'none'],
   compare: (one, other) => orderOf(new Version(one).compare(other)),
   version: (text) => ['yes', String(new Version(text))],

@@ -16,8 +16,8 @@ EXPORT(int32_t, increment)(uint32_t release_type, uint32_t version_len, uint32_t
     WRITES(semver_increment(release_type, TEXT(0, version_len), TEXT(version_len, identifiers_len), base, OUT, &needed));
 }
 
-EXPORT(int32_t, coerce)(uint32_t first_or_last, uint32_t text_len) {
-    WRITES(semver_coerce(first_or_last, TEXT(0, text_len), OUT, &needed));
+EXPORT(int32_t, coerce)(uint32_t first_or_last, uint32_t text_len, uint32_t pre_releases) {
+    WRITES(semver_coerce(first_or_last, TEXT(0, text_len), pre_releases, OUT, &needed));
 }
 
 EXPORT(int32_t, difference)(uint32_t one_len, uint32_t other_len) {

@@ -244,18 +244,21 @@ def increment(version: V, release_type: ReleaseType, *, identifier: str = "", ba
     return type(version)(written)
 
 
-def coerce(text: str, *, rtl: bool = False) -> Optional[str]:
-    """The first version in a string: one to three numbers with a dot between neighbours. With `rtl`, the one that ends last.
+def coerce(text: str, *, rtl: bool = False, pre_releases: bool = False) -> Optional[str]:
+    """The first version in a string: one to three numbers with a dot between neighbours. With `rtl`, the one that ends last. With
+    `pre_releases` it keeps the pre-release and the build that come right behind its numbers.
 
     >>> coerce("v3.4 replaces 3.3.1"), coerce("v3.4 replaces 3.3.1", rtl=True)
     ('3.4.0', '3.3.1')
+    >>> coerce("release-1.2-rc.1"), coerce("release-1.2-rc.1", pre_releases=True)
+    ('1.2.0', '1.2.0-rc.1')
     >>> coerce("latest") is None
     True
     """
     if not isinstance(rtl, bool):
         wrong_type(rtl, "rtl", "bool")
     source = encoded(text, "text", InvalidVersion)
-    code, written = read("coerce", int(rtl), source, len(source))
+    code, written = read("coerce", int(rtl), source, len(source), pre_number(pre_releases))
     if code >= 0:
         return written if code == YES else None
     return fail_version(code, text)

@@ -26,7 +26,7 @@ TABLE: Dict[str, Tuple[Any, ...]] = {
     "above": (c_int32, c_uint32, *TEXT, *TEXT, c_uint32, *TEXT, SIZE),
     "below": (c_int32, c_uint32, *TEXT, *TEXT, c_uint32, *TEXT, SIZE),
     "increment": (c_int32, c_uint32, *TEXT, *TEXT, c_uint32, *TEXT, SIZE),
-    "coerce": (c_int32, c_uint32, *TEXT, *TEXT, SIZE),
+    "coerce": (c_int32, c_uint32, *TEXT, c_uint32, *TEXT, SIZE),
     "difference": (c_int32, *TEXT, *TEXT, SIZE),
     "compare": (c_int32, *TEXT, *TEXT, SIZE),
     "intersects": (c_int32, c_uint32, *TEXT, *TEXT, SIZE),

@@ -6,7 +6,7 @@ calls! {
     fn semver_above(grammar: u32, range: &str, version: &str, pre_releases: u32, out: &mut [u8], needed: &mut usize) -> i32;
     fn semver_below(grammar: u32, range: &str, version: &str, pre_releases: u32, out: &mut [u8], needed: &mut usize) -> i32;
     fn semver_increment(release_type: u32, version: &str, identifiers: &str, base: u32, out: &mut [u8], needed: &mut usize) -> i32;
-    fn semver_coerce(first_or_last: u32, text: &str, out: &mut [u8], needed: &mut usize) -> i32;
+    fn semver_coerce(first_or_last: u32, text: &str, pre_releases: u32, out: &mut [u8], needed: &mut usize) -> i32;
     fn semver_difference(one: &str, other: &str, place: &mut usize) -> i32;
     fn semver_within(grammar: u32, one: &str, other: &str, pre_releases: u32, out: &mut [u8], needed: &mut usize, place: &mut usize) -> i32;
     fn semver_equivalent(grammar: u32, one: &str, other: &str, pre_releases: u32, place: &mut usize) -> i32;

@@ -61,6 +61,14 @@ crate::error::errors! {
     IncrementError: |it, f| f.write_str(&it.message);
 }
 
+fn coerced(text: &str, which: Coerced, pre_releases: bool) -> Option<Version> {
+    with_text(|out, needed| semver_coerce(which as u32, text, pre_releases.into(), out, needed), |code, text| match code {
+        YES => Version::parse_valid(text),
+        NO => None,
+        _ => failed(code),
+    })
+}
+
 impl Version {
     /// The next version of a kind, without a build. A first pre-release has `identifiers`, with `.` between them, and then the number of
     /// `base`. [`ReleaseType::PreRelease`] raises the last number of a pre-release, if the pre-release begins with the identifiers and goes
@@ -101,11 +109,18 @@ impl Version {
     /// assert_eq!(Version::coerce(text, Coerced::Last).unwrap().to_string(), "3.3.1");
     /// ```
     pub fn coerce(text: &str, which: Coerced) -> Option<Version> {
-        with_text(|out, needed| semver_coerce(which as u32, text, out, needed), |code, text| match code {
-            YES => Version::parse_valid(text),
-            NO => None,
-            _ => failed(code),
-        })
+        coerced(text, which, false)
+    }
+
+    /// The same version with the pre-release and the build that come right behind its numbers.
+    ///
+    /// ```
+    /// use deno_semver_proved::{Coerced, Version};
+    ///
+    /// assert_eq!(Version::coerce_whole("release-1.2-rc.1", Coerced::First).unwrap().to_string(), "1.2.0-rc.1");
+    /// ```
+    pub fn coerce_whole(text: &str, which: Coerced) -> Option<Version> {
+        coerced(text, which, true)
     }
 
     /// The kind of the step between two versions, in either direction; none if they have the same precedence.

@@ -366,9 +366,10 @@ fn ask(question: &[&str]) -> Option<Answers> {
                     .collect()
             })
         }
-        ["coerce", which, text] => {
+        ["coerce", which, parts, text] => {
             let which = [Coerced::First, Coerced::Last][place_of(which, &["first", "last"])?];
-            Version::coerce(text, which).map_or(answer(&["no"]), |version| answer(&["yes", &version.to_string()]))
+            let coerce = [Version::coerce, Version::coerce_whole][place_of(parts, &["numbers", "all"])?];
+            coerce(text, which).map_or(answer(&["no"]), |version| answer(&["yes", &version.to_string()]))
         }
         ["difference", one, other] => versions(one).and_then(|one| pairs(one, versions(other)?, same, difference)),
         ["compare", one, other] => versions(one).and_then(|one| pairs(one, versions(other)?, same, precedence)),

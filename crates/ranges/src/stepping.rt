@@ -3,7 +3,7 @@
 use crate::comparing::{print_answer, reject};
 use answers::questions::text_of_version;
 use answers::steps;
-use node_semver::coerce::{self, Direction};
+use node_semver::coerce::{self, Direction, Parts};
 use node_semver::identifiers::identifiers;
 use node_semver::increment::Base;
 use node_semver::release_type::ReleaseType;
@@ -70,7 +70,12 @@ pub fn coerce<O: Write, E: Write>(
     } else {
         Direction::LeftToRight
     };
-    match coerce::coerce(console.alloc, given.text("TEXT"), direction) {
+    let parts = if given.has("pre") {
+        Parts::All
+    } else {
+        Parts::Numbers
+    };
+    match coerce::coerce(console.alloc, given.text("TEXT"), direction, parts)? {
         Some(version) => {
             let version = text_of_version(console.alloc, &version)?;
             print_answer(console, "version", Some(version.as_str()))

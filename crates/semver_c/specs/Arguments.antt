@@ -7,6 +7,8 @@ use Rattle.semver_req.specs.declared.common.values.Flavour.{Flavour}
 use Rattle.semver_req.specs.declared.common.values.Flavour.TheVariants.{Npm, Normal, Specifier}
 use Rattle.node_semver.specs.declared.coerce.Direction.{Direction}
 use Rattle.node_semver.specs.declared.coerce.Direction.TheVariants as direction
+use Rattle.node_semver.specs.declared.coerce.Parts.{Parts}
+use Rattle.node_semver.specs.declared.coerce.Parts.TheVariants.{Numbers, All}
 use Rattle.node_semver.specs.declared.increment.Base.{Base}
 use Rattle.node_semver.specs.declared.increment.Base.TheVariants as base
 use Rattle.node_semver.specs.declared.release_type.ReleaseType.{ReleaseType}
@@ -126,3 +128,7 @@ pub data IsUtf8Text (bytes : List ℕ) : Result (List ℕ) CallFault → Type 0 
 -- pre-releases are restricted by npm's rule at 0, and admitted at any other number
 abbrev pub pre_release_by : ℕ → PreRelease
 pre_release_by number = if number == 0 then Restricted else Admitted
+
+-- the numbers alone are taken at 0, and all parts of a version at any other number
+abbrev pub parts_by : ℕ → Parts
+parts_by number = if number == 0 then Numbers else All

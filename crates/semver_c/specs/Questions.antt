@@ -6,7 +6,9 @@ use Rattle.semver_base.specs.declared.version.Version.{Version}
 use Rattle.semver_req.specs.Requirement.{Requirement, tag_of}
 use Rattle.semver_req.specs.declared.common.values.Flavour.{Flavour}
 use Rattle.deno_semver.specs.ExportName.{export_name}
-use Rattle.node_semver.specs.Coerce.{coerced}
+use Rattle.node_semver.specs.Coerce.{IsCoerced}
+use Rattle.node_semver.specs.declared.coerce.Direction.{Direction}
+use Rattle.node_semver.specs.declared.coerce.Parts.{Parts}
 use Rattle.node_semver.specs.declared.outside.Side.{Side}
 use Rattle.semver_req.specs.Viable.{IsErrorPlace, IsVersionText}
 use Rattle.answers.specs.Asking.{Fault, Given, Is}
@@ -25,7 +27,7 @@ use Rattle.answers.specs.declared.asking.Answer.TheVariants.{Value}
 use Rattle.answers.specs.declared.questions.Best.{Best}
 use Rattle.answers.specs.declared.questions.End.{End}
 use Rattle.answers.specs.declared.sorting.Order.TheVariants.{Ascending}
-use Rattle.semver_c.specs.Arguments.{CallFault, Called, IsNumbered, IsUtf8Text, bases, directions, pre_release_by, release_types, subjects}
+use Rattle.semver_c.specs.Arguments.{CallFault, Called, IsNumbered, IsUtf8Text, bases, directions, parts_by, pre_release_by, release_types, subjects}
 use Rattle.semver_c.specs.Codes.{match_code}
 use Rattle.semver_c.specs.Given.{IsWithText, IsWithTexts}
 use Rattle.semver_c.specs.declared.arguments.Subject.{Subject}
@@ -58,10 +60,13 @@ abbrev pub IncrementBy : ℕ → List ℕ → List ℕ → ℕ → Result (List 
 IncrementBy kind version identifiers number = Given (IsNumbered release_types kind)
     (λ t. Given (IsNumbered bases number) (λ b. OfTexts version identifiers (Increments t b)))
 
+-- the version that a text holds, if it holds one
+abbrev pub Holds : Direction → Parts → List ℕ → Result (Answer (Option Version)) CallFault → Type 0
+Holds d kept text outcome = (found : Option Version) × IsCoerced d kept text found × (outcome ≡ Ok (Value found))
+
 -- `semver_coerce`
-abbrev pub CoercesTo : ℕ → List ℕ → Result (Answer (Option Version)) CallFault → Type 0
-CoercesTo number bytes =
-    Given (IsNumbered directions number) (λ d. Given (IsUtf8Text bytes) (λ text. Is (Value (coerced d text))))
+abbrev pub CoercesTo : ℕ → List ℕ → ℕ → Result (Answer (Option Version)) CallFault → Type 0
+CoercesTo number bytes kept = Given (IsNumbered directions number) (λ d. Given (IsUtf8Text bytes) (Holds d (parts_by kept)))
 
 -- `semver_fits`
 abbrev pub Fits : ℕ → ℕ → List ℕ → List ℕ → Result (Answer Bool) CallFault → Type 0

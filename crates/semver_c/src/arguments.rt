@@ -3,7 +3,7 @@
 ghost use Rattle.std.specs.Prelude.{◌≡◌, IfOk, map};
 ghost use Rattle.std.specs.Str.Lines.{lines};
 ghost use Rattle.answers.specs.declared.asking.Problem.TheVariants as unanswered;
-ghost use Rattle.semver_c.specs.Arguments.{IsArgument, IsNumbered, IsUtf8Text, bases, call_fault, call_message, directions, fault_place, grammars, pre_release_by, release_types, subjects};
+ghost use Rattle.semver_c.specs.Arguments.{IsArgument, IsNumbered, IsUtf8Text, bases, call_fault, call_message, directions, fault_place, grammars, parts_by, pre_release_by, release_types, subjects};
 ghost use Rattle.semver_c.specs.Given.{IsWithText, IsWithTexts, text_given, texts_given};
 ghost use Rattle.semver_c.specs.Codes.{fault_code};
 ghost use Rattle.semver_c.specs.declared.arguments.Problem.TheVariants as problem;
@@ -11,7 +11,7 @@ ghost use Rattle.semver_c.specs.declared.arguments.Problem.TheVariants as proble
 use crate::codes::Code;
 use answers::asking::{Kind, Problem as Unanswered};
 use deno_semver::PreRelease;
-use node_semver::coerce::Direction;
+use node_semver::coerce::{Direction, Parts};
 use node_semver::increment::Base;
 use node_semver::release_type::ReleaseType;
 use semver_req::common::values::Flavour;
@@ -157,6 +157,17 @@ pub fn pre_release(number: u32) -> PreRelease
         PreRelease::Restricted
     } else {
         PreRelease::Admitted
+    }
+}
+
+/// Which parts of a version are taken: at 0 its numbers, at any other number all.
+pub fn parts(number: u32) -> Parts
+    ensures { result ≡ parts_by number }
+{
+    if number == 0 {
+        Parts::Numbers
+    } else {
+        Parts::All
     }
 }
 

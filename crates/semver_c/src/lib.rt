@@ -145,19 +145,20 @@ pub extern "C" fn semver_increment(
 }
 
 /// The version that a text holds, as displayed: yes; or no, if there is none. Of several it is the first at 0, and the one that ends last
-/// at 1.
+/// at 1. Of `pre_releases` 0 takes its numbers alone, and any other number its pre-release and its build, too.
 #[unsafe(no_mangle)]
 pub extern "C" fn semver_coerce(
     alloc: Global,
     first_or_last: u32,
     text: &[u8],
+    pre_releases: u32,
     out: &mut [u8],
     needed: &mut usize,
 ) -> i32
-    ensures { IsReply (CoercesTo first_or_last text.now) (lowest_code code.Yes code.No)
+    ensures { IsReply (CoercesTo first_or_last text.now pre_releases) (lowest_code code.Yes code.No)
         (or_message lowest_text) out.old out.new needed.new result }
 {
-    let answer = coerced_of(alloc, first_or_last, text);
+    let answer = coerced_of(alloc, first_or_last, text, pre_releases);
     report_lowest(alloc, answer, Code::Yes, Code::No, out, needed)
 }
 

@@ -23,8 +23,8 @@ ghost use Rattle.semver_c.specs.Held.{IsHeldBest, OfHeld, of_both, of_one};
 ghost use Rattle.semver_c.specs.Questions.{BestLine, ByOne, ByTwo, CoercesTo, CommonBy, CommonOfAll, EquivalentBy, ErrorsBy, ExplainsBy, ExportNameOf, Filters, Fits, IncrementBy, Lies, LowestBy, MatchesHeld, NumbersOf, OfText, OfTexts, OutsideBy, PackageErrorsBy, RangeBy, ReferenceErrorsOf, SortsOf, TagBy, VersionErrorOf, VersionListOf, WhyBy};
 
 use crate::arguments::{
-    Problem, Subject, base_of, direction_of, line_list, pre_release, release_type_of, subject_of,
-    text, with_text, with_texts,
+    Problem, Subject, base_of, direction_of, line_list, parts, pre_release, release_type_of,
+    subject_of, text, with_text, with_texts,
 };
 use crate::codes::Code;
 use answers::asking::Answer;
@@ -226,12 +226,16 @@ pub fn coerced_of(
     alloc: Global,
     direction: u32,
     bytes: &[u8],
+    pre_releases: u32,
 ) -> Result<Answer<Option<Version>>, Problem>
-    ensures { IsCallAnswer (CoercesTo direction bytes.now) (λ answer. answer) result }
+    ensures { IsCallAnswer (CoercesTo direction bytes.now pre_releases) (λ answer. answer) result }
 {
     let direction = direction_of(direction)?;
     let text = text(bytes)?;
-    Ok(Answer::Value(coerce(alloc, text, direction)))
+    match coerce(alloc, text, direction, parts(pre_releases)) {
+        Ok(found) => Ok(Answer::Value(found)),
+        Err(error) => Err(Problem::from(error)),
+    }
 }
 
 /// Of which kind is the step between the two versions?

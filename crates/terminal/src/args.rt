@@ -345,6 +345,12 @@ const RTL: Argument = Argument {
     help: "Print the version that ends last",
 };
 
+const WHOLE: Argument = Argument {
+    name: "pre",
+    form: Form::Flag(Some('p'), &[]),
+    help: "Print the pre-release and the build behind the numbers, too",
+};
+
 fn option<'a>(alloc: Global, argument: &Argument, short: Option<char>) -> Arg<'a> {
     let option = Arg::new(alloc, argument.name).long(argument.name);
     match short {
@@ -585,10 +591,11 @@ Examples:
     Entry {
         name: "coerce",
         about: "Print the version that a string holds",
-        arguments: &[JSON, RTL, HOLDING],
+        arguments: &[JSON, WHOLE, RTL, HOLDING],
         examples: "\
 Examples:
   ranges coerce v1.2
+  ranges coerce --pre 'release 1.2.3-rc.1'
   ranges coerce --rtl 'node 20.11 replaces 18.19.1'",
     },
 ];

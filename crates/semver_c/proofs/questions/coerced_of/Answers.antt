@@ -1,15 +1,23 @@
-use Rattle.std.proofs.Common.{◌≡◌, Ok, Option, ap}
+use Rattle.std.proofs.Common.{◌≡◌, ◌∙◌, Ok, Option, Result, ap, inr, refl, sym, ℕ, List}
 use Rattle.semver_base.specs.declared.version.Version.{Version}
-use Rattle.node_semver.specs.Coerce.{coerced}
-use Rattle.answers.specs.AskingLaws.{answered}
+use Rattle.node_semver.specs.Coerce.{IsCoerced}
+use Rattle.node_semver.specs.declared.coerce.Direction.{Direction}
+use Rattle.node_semver.specs.declared.coerce.Parts.{Parts}
+use Rattle.answers.specs.Asking.{IsOutcomeOf}
+use Rattle.answers.specs.AskingLaws.{out_of_memory}
 use Rattle.answers.specs.declared.asking.Answer.{Answer}
 use Rattle.answers.specs.declared.asking.Answer.TheVariants.{Value}
-use Rattle.semver_c.specs.Arguments.{memory}
+use Rattle.semver_c.specs.Arguments.{CallFault, memory}
+use Rattle.semver_c.specs.Questions.{Holds}
 use Rattle.semver_c.proofs.Asking.{within, without}
 use Rattle.semver_c.proofs.questions.coerced_of.Goals as goal
 
-abbrev as_value : Option Version → Answer (Option Version)
-as_value found = Value found
+abbrev as_value : Option Version → Result (Answer (Option Version)) CallFault
+as_value found = Ok (Value found)
+
+held : (d : Direction) (kept : Parts) (text : List ℕ) (found : Option Version) → IsCoerced d kept text found
+    → ((other : Option Version) → IsCoerced d kept text other → other ≡ found) → IsOutcomeOf memory (Holds d kept text) (as_value found)
+held d kept text found is one = record { is = inr (found, is, refl); only = λ o a. inr (ap as_value (sym (one a.0 a.1)) ∙ sym a.2) }
 
 pub returns-in_err-direction : goal.returns-in_err-direction
 returns-in_err-direction c = without _ _ (λ x. x) c.from_residual.result _ c.in_err-direction.ensures c.from_residual.ensures.1
@@ -18,9 +26,3 @@ pub returns-in_err-text : goal.returns-in_err-text
 returns-in_err-text c =
     let r = c.from_residual-in_err-text in
     within _ _ (λ x. x) r.result _ c.in_ok-direction.ensures (without _ _ (λ x. x) r.result _ c.in_err-text.ensures r.ensures.1)
-
-pub returns : goal.returns
-returns c =
-    let is : as_value c.coerce.result ≡ as_value (coerced c.in_ok-direction.direction c.in_ok-text.text.now) = ap as_value c.coerce.ensures in
-    let result = Ok (as_value c.coerce.result) in
-    within _ _ (λ x. x) result _ c.in_ok-direction.ensures (within _ _ (λ x. x) result _ c.in_ok-text.ensures (answered memory _ _ is))
