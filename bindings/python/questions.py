@@ -170,8 +170,8 @@ def of_texts(name, texts, options):
         kind, base, version, identifier = texts
         return ["yes", semver.increment(version, kind, identifier=identifier, base=BASES[base])]
     if name == "coerce":
-        end, parts, text = texts
-        version = semver.coerce(text, rtl={"first": False, "last": True}[end], pre_releases=parts == "all")
+        end, which, text = texts
+        version = semver.coerce(text, rtl={"first": False, "last": True}[end], pre_releases=which == "all")
         return ["no"] if version is None else ["yes", version]
     if name == "difference":
         return [semver.difference(*texts) or "none"]
