@@ -2,6 +2,7 @@
 
 use crate::apart::first_apart;
 use crate::catalogs::{Catalogs, resolved, shelve};
+use crate::findings::Position;
 use crate::fixing::range_of_specifier;
 use crate::walking::{Group, Manifests, find, read_file};
 use answers::asking::Problem;
@@ -355,9 +356,30 @@ fn add_manifest<R: Runtime + AllocGlobal, O: Write, E: Write>(
     let text = text.as_str();
     let text = text.strip_prefix('\u{feff}').unwrap_or(text);
     let entries = entries(console.alloc, path, text)?;
+    let status = complain_of(console, path, text, entries.as_slice());
     let path = String::from_str(console.alloc, path)?;
     manifests.push(Manifest { path, entries })?;
-    Ok(Status::Answered)
+    Ok(status)
+}
+
+// Reports what isn't read of a manifest.
+fn complain_of<O: Write, E: Write>(
+    console: &mut Console<O, E>,
+    path: &str,
+    text: &str,
+    entries: &[Entry],
+) -> Status {
+    let mut status = Status::Answered;
+    let mut position = Position::START;
+    for entry in entries {
+        let Kind::Mistake(message) = entry.kind else {
+            continue;
+        };
+        position.move_to(text, entry.start);
+        let place = format_args!("{}:{}", Shown(path), position);
+        status = status.worse(console.complain(place, message));
+    }
+    status
 }
 
 // Adds what stands in the manifests of a group.

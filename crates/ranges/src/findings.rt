@@ -8,6 +8,7 @@ use package_answers::errors::PackageErrors;
 use semver_req::common::values::Flavour;
 use serde_json::Value;
 use std::alloc::{AllocError, Global};
+use std::fmt;
 use std::io::Write;
 use terminal::console::{Console, END, ERROR, Status, Stop, WARNING, print_line};
 use terminal::entry::Entry;
@@ -113,6 +114,12 @@ impl Position {
             }
         }
         self.index = index;
+    }
+}
+
+impl fmt::Display for Position {
+    fn fmt<W: fmt::Write>(&self, f: &mut fmt::Formatter<W>) -> fmt::Result {
+        write!(f, "{}:{}", self.line, self.column)
     }
 }
 
