@@ -308,6 +308,12 @@ fn check_range<O: Write, E: Write>(
 
 // ---- entries
 
+// Whether the entry is of overrides, and refers to a dependency.
+fn refers(entry: &Entry) -> bool {
+    npm::is_reference(entry.text.as_str())
+        && matches!(entry.section, "overrides" | "resolutions" | "pnpm")
+}
+
 // Checks a dependency, or a range on a line, which may name a package, too.
 fn check_dependency<O: Write, E: Write>(
     console: &mut Console<O, E>,
@@ -315,6 +321,9 @@ fn check_dependency<O: Write, E: Write>(
     entry: &Entry,
 ) -> Result<(), Stop> {
     let text = entry.text.as_str();
+    if refers(entry) {
+        return Ok(());
+    }
     match source_of(text) {
         Source::Registry(range) => check_range(console, report, entry, Flavour::Npm, range),
         Source::Elsewhere | Source::Odd(_) if entry.kind == Kind::Range && text.contains(' ') => {

@@ -24,7 +24,8 @@ use terminal::entry::Entry;
 use terminal::hints::corrected;
 use terminal::manifest::entries;
 use terminal::npm::{
-    Reading, Source, number_behind_wildcard, number_behind_zero, read_range, renamed, source_of,
+    Reading, Source, is_reference, number_behind_wildcard, number_behind_zero, read_range, renamed,
+    source_of,
 };
 use terminal::sections::Kind;
 use terminal::shown::Shown;
@@ -84,6 +85,8 @@ fn found_in(alloc: Global, entry: &Entry) -> Result<Option<Found<'_>>, Stop> {
             });
         }
         Kind::Engine => text,
+        // A correction would be a guess.
+        Kind::Dependency | Kind::Range if is_reference(text) => return Ok(None),
         Kind::Dependency | Kind::Range => match source_of(text) {
             Source::Registry(range) => range,
             _ if entry.kind == Kind::Range && text.contains(' ') => text,

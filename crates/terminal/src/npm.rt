@@ -52,18 +52,18 @@ pub fn is_package_name(text: &str) -> bool {
         Some(scoped) => scoped.split_once('/').unwrap_or(("", "")),
         None => ("scope", text),
     };
-    let is_reserved = name.eq_ignore_ascii_case("node_modules")
-        || name.eq_ignore_ascii_case("favicon.ico");
+    let is_reserved = text.eq_ignore_ascii_case("node_modules")
+        || text.eq_ignore_ascii_case("favicon.ico");
     let is_hidden = text.starts_with(['.', '_'].as_slice());
     let is_there = !scope.is_empty() && !name.is_empty();
     is_there && is_url_text(scope) && is_url_text(name) && !is_reserved && !is_hidden
 }
 
-// Whether the text is a path by how it begins, or refers to another override.
+// Whether the text is a path by how it begins.
 fn is_path(text: &str) -> bool {
     let mut chars = text.chars();
     match (chars.next(), chars.next()) {
-        (Some('.' | '/' | '$'), _) | (Some('~'), Some('/')) => true,
+        (Some('.' | '/'), _) | (Some('~'), Some('/')) => true,
         (Some(drive), Some(':')) => drive.is_ascii_alphabetic(),
         (_, _) => false,
     }
@@ -220,6 +220,8 @@ const LONG: usize = 256;
 #[derive(Clone, Copy, PartialEq, Eq)]
 enum Word {
     Comparator,
+    /// A comparator that every version matches. npm takes it only at the front or at the end of an alternative.
+    Any,
     /// A comparator with a number that is too large, or a version that is too long.
     TooLarge,
     Ignored,
@@ -288,6 +290,7 @@ fn version(text: &str, form: Form) -> Word {
             || minor.is_some_and(|minor| is_large(minor, !is_caret));
         return match (is_whole, is_too_large) {
             (true, _) => Word::Ignored,
+            (false, _) if is_wildcard(major) => Word::Any,
             (false, true) => Word::TooLarge,
             (false, false) => Word::Comparator,
         };
@@ -297,6 +300,9 @@ fn version(text: &str, form: Form) -> Word {
     match rest.strip_prefix(is_patch) {
         Some(behind) if ends_version(behind) => (),
         _ => return Word::Ignored,
+    }
+    if is_wildcard(major) {
+        return Word::Any;
     }
     let patch_end = rest.find(|c: char| !c.is_ascii_digit());
     let patch = rest.get(..patch_end.unwrap_or(rest.len())).unwrap_or("");
@@ -319,8 +325,8 @@ fn behind_operator(text: &str) -> &str {
 // What npm makes of a word behind an operator that stands alone, or behind nothing.
 fn word_of(operator: &str, word: &str) -> Word {
     let (is_tilde, bare) = match operator {
-        "^" => return version(word, Form::Caret),
-        "~" | "~>" => (true, word),
+        "^" | "^=" => return version(word, Form::Caret),
+        "~" | "~=" | "~>" | "~>=" => (true, word),
         "" => match (word.strip_prefix('^'), word.strip_prefix('~')) {
             (Some(bare), _) => return version(bare, Form::Caret),
             (_, Some(bare)) => (true, bare),
@@ -331,13 +337,17 @@ fn word_of(operator: &str, word: &str) -> Word {
     if is_tilde {
         return version(bare.strip_prefix('>').unwrap_or(bare), Form::Partial);
     }
-    let found = version(bare, Form::Partial);
-    if found != Word::Ignored {
-        return found;
+    match version(bare, Form::Partial) {
+        Word::Ignored => (),
+        // No version is below all others or above them.
+        Word::Any if matches!(operator, "<" | ">") => return Word::Comparator,
+        Word::Any if word.starts_with(['<', '>'].as_slice()) && !word.contains('=') => {
+            return Word::Comparator;
+        }
+        found => return found,
     }
     // npm drops the first `*` of any other word, with the operator in front of it.
     match bare.split_once('*') {
-        Some((before, "")) if behind_operator(before).is_empty() => Word::Comparator,
         Some(("", behind)) => version(behind_operator(behind), Form::Whole),
         Some((before, "")) => {
             let before = before.strip_suffix('=').unwrap_or(before);
@@ -353,15 +363,71 @@ fn is_sign(c: char) -> bool {
     matches!(c, '^' | '~' | '<' | '>' | '=' | 'v')
 }
 
-// Whether the word is an operator that npm joins with the version behind it.
-fn is_operator(word: &str) -> bool {
-    matches!(word, "<" | "<=" | ">" | ">=" | "=" | "^" | "~" | "~>")
+// The operators that npm joins with what follows them, the longer ones first.
+const OPERATORS: [&str; 11] = ["~>=", "~>", "~=", "^=", "<=", ">=", "<", ">", "=", "^", "~"];
+
+// What a word is before the operator that ends it, and this operator, which is empty if there is none.
+fn split_operator(word: &str) -> (&str, &str) {
+    let Some(operator) = OPERATORS.iter().find(|it| word.ends_with(**it)) else {
+        return (word, "");
+    };
+    let (front, operator) = word
+        .split_at_checked(word.len().saturating_sub(operator.len()))
+        .unwrap_or((word, ""));
+    // npm reads these signs as a part of the version behind them.
+    if operator == "=" && front.ends_with(['=', 'v'].as_slice()) {
+        (word, "")
+    } else {
+        (front, operator)
+    }
 }
 
 // Whether npm joins an operator with this word.
 fn is_joined(operator: &str, word: &str) -> bool {
+    let number = word.trim_start_matches(['v', '='].as_slice());
     matches!(operator, "^" | "~" | "~>")
-        || word.starts_with(|c: char| c.is_ascii_digit() || "vxX*=".contains(c))
+        || number.starts_with(|c: char| c.is_ascii_digit() || "xX*".contains(c))
+}
+
+// An operator that ends a word, and waits for what follows.
+#[derive(Clone, Copy)]
+struct Operator<'t> {
+    /// The word.
+    word: &'t str,
+    sign: &'t str,
+    /// Whether it is the whole word.
+    is_bare: bool,
+}
+
+impl<'t> Operator<'t> {
+    // The operator with which this word goes on or ends, if it does.
+    fn next(before: Option<Operator<'t>>, word: &'t str) -> Option<Operator<'t>> {
+        let (front, sign) = split_operator(word);
+        let Some(before) = before else {
+            let is_bare = front.is_empty();
+            return match sign {
+                "" => None,
+                sign => Some(Operator {
+                    word,
+                    sign,
+                    is_bare,
+                }),
+            };
+        };
+        match (before.sign, word) {
+            _ if sign.is_empty() => None,
+            ("~", ">" | ">=") if before.is_bare => Some(Operator {
+                sign: "~>",
+                ..before
+            }),
+            ("^" | "~" | "~>", "=") => Some(before),
+            (_, _) => Some(Operator {
+                sign,
+                is_bare: false,
+                ..before
+            }),
+        }
+    }
 }
 
 // An alternative as npm reads it.
@@ -370,56 +436,80 @@ struct Alternative<'t> {
     is_kept: bool,
     is_too_large: bool,
     ignored: Option<&'t str>,
+    /// What the last word was.
+    last: Option<Word>,
 }
 
 impl<'t> Alternative<'t> {
     fn take(&mut self, text: &'t str, word: Word) {
         match word {
             Word::Comparator => self.is_kept = true,
+            Word::Any => self.is_kept |= self.last.is_none(),
             Word::TooLarge => self.is_too_large = true,
             Word::Ignored => self.ignored = self.ignored.or(Some(text)),
+        }
+        self.last = Some(word);
+    }
+
+    // Takes a word, with the operator that npm joins with it.
+    fn join(&mut self, operator: Option<Operator<'t>>, text: &'t str) {
+        match operator {
+            Some(operator) if operator.is_bare => self.take(text, word_of(operator.sign, text)),
+            Some(operator) => self.take(operator.word, Word::Ignored),
+            None => self.take(text, word_of("", text)),
         }
     }
 }
 
+// The versions at both ends of a text with a hyphen between them, if it has such.
+fn ends_of(text: &str) -> Option<(Word, Word)> {
+    let mut words = text.split_whitespace();
+    let from = words.next()?;
+    if words.next()? != "-" {
+        return None;
+    }
+    let (from, to) = (
+        version(from, Form::Partial),
+        version(words.next()?, Form::Partial),
+    );
+    if words.next().is_some() || from == Word::Ignored || to == Word::Ignored {
+        None
+    } else {
+        Some((from, to))
+    }
+}
+
 fn alternative_of(text: &str) -> Alternative<'_> {
+    let text = text.trim();
     let mut all = Alternative {
-        is_kept: text.trim().is_empty(),
+        is_kept: text.is_empty(),
         is_too_large: false,
         ignored: None,
+        last: None,
     };
-    if let Some((from, to)) = text.trim().split_once(" - ") {
-        let from = version(from.trim(), Form::Partial);
-        let to = version(to.trim(), Form::Partial);
-        if from != Word::Ignored && to != Word::Ignored {
-            all.take("", from);
-            all.take("", to);
-            return all;
-        }
+    if let Some((from, to)) = ends_of(text) {
+        all.is_too_large = from == Word::TooLarge || to == Word::TooLarge;
+        all.is_kept = !all.is_too_large;
+        return all;
     }
-    let mut operator = None;
-    for next in text.split_whitespace() {
-        if operator == Some("~") && next == ">" {
-            operator = Some("~>");
-            continue;
-        }
-        match operator.take() {
-            Some(operator) if is_joined(operator, next) => {
-                all.take(next, word_of(operator, next));
-                continue;
+    let mut waiting: Option<Operator<'_>> = None;
+    for word in text.split_whitespace() {
+        let operator = match waiting.take() {
+            Some(operator) if !is_joined(operator.sign, word) => {
+                all.take(operator.word, Word::Ignored);
+                None
             }
-            Some(operator) => all.take(operator, Word::Ignored),
-            None => (),
-        }
-        if is_operator(next) {
-            operator = Some(next);
-        } else {
-            all.take(next, word_of("", next));
+            operator => operator,
+        };
+        waiting = Operator::next(operator, word);
+        if waiting.is_none() {
+            all.join(operator, word);
         }
     }
-    if let Some(operator) = operator {
-        all.take(operator, Word::Ignored);
+    if let Some(operator) = waiting {
+        all.take(operator.word, Word::Ignored);
     }
+    all.is_kept |= all.last == Some(Word::Any);
     all
 }
 
@@ -486,6 +576,11 @@ pub fn number_behind_zero(text: &str) -> Option<&str> {
         }
     }
     None
+}
+
+/// Whether the text refers to a dependency, as a text of overrides may.
+pub fn is_reference(text: &str) -> bool {
+    text.starts_with('$')
 }
 
 /// Whether npm takes a text as a version.
