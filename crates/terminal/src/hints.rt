@@ -8,7 +8,7 @@ use std::alloc::{AllocError, Global};
 use std::fmt;
 
 // What package.json has in place of a range.
-const PROTOCOLS: [&str; 23] = [
+const PROTOCOLS: [&str; 24] = [
     "workspace:",
     "catalog:",
     "file:",
@@ -30,6 +30,7 @@ const PROTOCOLS: [&str; 23] = [
     "gitlab:",
     "bitbucket:",
     "gist:",
+    "sourcehut:",
     "http:",
     "https:",
 ];
