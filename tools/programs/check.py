@@ -408,11 +408,11 @@ def sarif():
         ("rules", sorted(it["id"] for it in driver["rules"]), sorted([*rules, "canonical", "invalid"])),
         ("texts of rules", [all(it[key]["text"] for key in RULE_TEXTS) for it in driver["rules"]], [True] * len(driver["rules"])),
         ("rules that are off", [it["id"] for it in driver["rules"] if not it["defaultConfiguration"].get("enabled", True)], RULES_OFF),
-        ("ruleId", [it["ruleId"] for it in results], ["invalid", "any-zero", "canonical", "canonical", "odd-engine"]),
-        ("level", [it["level"] for it in results], ["error", "warning", "note", "note", "warning"]),
-        ("text", [bool(it["message"]["text"]) for it in results], [True] * 5),
+        ("ruleId", [it["ruleId"] for it in results], ["invalid", "invalid", "any-zero", "canonical", "canonical", "odd-engine"]),
+        ("level", [it["level"] for it in results], ["error", "error", "warning", "note", "note", "warning"]),
+        ("text", [bool(it["message"]["text"]) for it in results], [True] * 6),
         ("uri", {it["artifactLocation"]["uri"] for it in places}, {"a%20b.json"}),
-        ("regions", regions, [(2, 32, 34), (2, 43, 45), (2, 43, 45), (2, 54, 55), (3, 19, 32)]),
+        ("regions", regions, [(2, 32, 34), (2, 26, 34), (2, 43, 45), (2, 43, 45), (2, 54, 55), (3, 19, 32)]),
     ):
         yield None if found == wanted else f"{what} of SARIF: wanted {wanted}, found {found}"
 

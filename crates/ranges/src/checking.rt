@@ -599,6 +599,10 @@ fn check_relations<'e, O: Write, E: Write>(
 ) -> Result<(), Stop> {
     match entry.section {
         "dependencies" | "devDependencies" | "optionalDependencies" | "peerDependencies" => {
+            if !entry.name.is_empty() && !is_package_name(entry.name.as_str()) {
+                let message = "npm refuses it: no package has such a name";
+                report.add(console, entry, Finding::new(Cause::Refused, message))?;
+            }
             if let Some(message) = file.known.refusal(console.alloc, entry)? {
                 let finding = Finding::new(Cause::Refused, message.as_str());
                 report.add(console, entry, finding)?;

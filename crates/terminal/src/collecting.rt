@@ -32,7 +32,7 @@ fn has_patterns(place: Place) -> bool {
     place.has_array || matches!(place.text, Some((Kind::Workspace, _)))
 }
 
-// What is said of a value, where something else belongs. npm takes `null` for no engines.
+// What is said of a value, where something else belongs.
 fn misplaced(shape: Shape, place: Place, is_engines: bool, is_of_workspaces: bool) -> Option<Kind> {
     let message = match place.text {
         Some((Kind::Engine, _)) if shape == Shape::Null => return None,
@@ -47,7 +47,6 @@ fn misplaced(shape: Shape, place: Place, is_engines: bool, is_of_workspaces: boo
         Some((Kind::Level, _)) => "expected a string, such as \"off\"",
         Some((Kind::Workspace, _)) => "expected a string, such as \"packages/*\"",
         Some(_) => "expected a string, such as \"^1.2\"",
-        None if is_engines && shape == Shape::Null => return None,
         None if is_engines => {
             return Some(Kind::Odd("not an object: package managers pass over it"));
         }
@@ -191,8 +190,8 @@ impl Collector {
             // pnpm passes over a section without a value.
             Format::Yaml => shape != Shape::Null || !self.path.is_empty(),
             Format::Package if is_import_map => false,
-            // Deno takes `null` for none.
-            _ if self.path.is_empty() && shape == Shape::Null && is_import_map => false,
+            // npm and Deno take `null` for none.
+            _ if self.path.is_empty() && shape == Shape::Null => self.is_workspaces(),
             // The keys of Node's imports.
             _ if first == "imports" && key.starts_with('#') => false,
             _ => place.is_strict,
