@@ -449,6 +449,9 @@ struct Target {
     spot: Spot,
 }
 
+// More files that were left beside a file end the command.
+const MANY_LEFT: u32 = 1000;
+
 // Where a file is written that may be written to.
 fn spot_of<R: Files + AllocGlobal>(rt: &R, path: &str) -> io::Result<Spot> {
     let real = fs::canonicalize(rt, path)?;
@@ -457,8 +460,21 @@ fn spot_of<R: Files + AllocGlobal>(rt: &R, path: &str) -> io::Result<Spot> {
     let _ = options.write(true);
     let opened = options.open(rt, real.as_str())?;
     drop(opened);
-    let beside = format!(in rt.alloc(); "{}.ranges-new", real.as_str())?;
+    let beside = free_name(rt, real.as_str())?;
     Ok(Spot { real, beside, data })
+}
+
+// A name beside a file that no file has. One of a run that was cut off may stay there.
+fn free_name<R: Files + AllocGlobal>(rt: &R, path: &str) -> io::Result<String> {
+    let mut name = format!(in rt.alloc(); "{path}.ranges-new")?;
+    for number in 1..=MANY_LEFT {
+        match fs::symlink_metadata(rt, name.as_str()) {
+            Ok(_) => name = format!(in rt.alloc(); "{path}.ranges-new{number}")?,
+            Err(error) if error.kind() == ErrorKind::OutOfMemory => return Err(error),
+            Err(_) => break,
+        }
+    }
+    Ok(name)
 }
 
 impl Spot {
@@ -518,7 +534,7 @@ fn complain<O: Write, E: Write>(
     let reason = match error.kind() {
         ErrorKind::OutOfMemory => return Err(Stop::OutOfMemory),
         ErrorKind::PermissionDenied => "permission denied",
-        ErrorKind::AlreadyExists => "a file named .ranges-new stands beside it",
+        ErrorKind::AlreadyExists => "is there already: remove it",
         _ => "can't be written",
     };
     Ok(console.complain(Shown(path), reason))
@@ -578,7 +594,11 @@ fn write_beside<R: Files + AllocGlobal, O: Write, E: Write>(
     for (place, Target { file, spot }) in targets.iter().enumerate() {
         if let Err(error) = spot.write(rt, file.new.as_str()) {
             remove_all(rt, targets.get(..place).unwrap_or(&[]));
-            return complain(console, file.path.as_str(), &error);
+            let path = match error.kind() {
+                ErrorKind::AlreadyExists => spot.beside.as_str(),
+                _ => file.path.as_str(),
+            };
+            return complain(console, path, &error);
         }
         if spot.keep_owner(rt).is_err() {
             remove_all(rt, targets.get(..=place).unwrap_or(&[]));
