@@ -424,7 +424,7 @@ def diffs():
             old = "\n".join("1.x" if line % 7 == 0 or line % 11 == 1 else "^1.2.0" for line in range(count)) + end
             row = {"files": {"list": old}, "after": {"list": ""}}
             new = run(RANGES, row | {"arguments": ["check", "--fix", "list"]})[3]["list"]
-            parts = difflib.unified_diff(old.splitlines(True), new.splitlines(True), "list", "list")
+            parts = difflib.unified_diff(old.splitlines(True), new.splitlines(True), "a/list", "b/list")
             wanted = "".join(part if part.endswith("\n") else part + "\n\\ No newline at end of file\n" for part in parts)
             found = run(RANGES, row | {"arguments": ["check", "--dry-run", "list"]})[0]
             yield None if found == wanted and new != old else f"the diff of {old!r}: wanted {wanted!r}, found {found!r}"

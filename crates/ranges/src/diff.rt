@@ -93,7 +93,13 @@ pub fn print_diff<'t, O: Write, E: Write>(
     let lines = lines(console.alloc, old, new)?;
     let lines = lines.as_slice();
     let out = &mut console.out;
-    write!(out, "--- {path}\n+++ {path}\n")?;
+    // git takes the first name off a path.
+    let path = path.strip_prefix("./").unwrap_or(path);
+    if path == "-" || path.starts_with('/') {
+        write!(out, "--- {path}\n+++ {path}\n")?;
+    } else {
+        write!(out, "--- a/{path}\n+++ b/{path}\n")?;
+    }
     let mut done = 0usize;
     for place in 0..lines.len() {
         if place < done || !is_shown(lines, place) {
