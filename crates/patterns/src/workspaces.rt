@@ -15,6 +15,8 @@ pub struct Workspace {
     pub is_without: bool,
     /// Whether a folder matched it.
     pub has_match: bool,
+    /// Whether a pattern behind it takes back what it leaves out.
+    is_undone: bool,
 }
 
 impl Workspace {
@@ -31,6 +33,7 @@ impl Workspace {
             patterns,
             is_without,
             has_match: false,
+            is_undone: false,
         }))
     }
 
@@ -43,21 +46,56 @@ impl Workspace {
         }
         Ok(false)
     }
+
+    // Whether the text of a pattern matches this one, as a path does. It matches all in a folder by `**`, and not the folder.
+    fn covers(&self, alloc: Global, text: &str) -> Result<bool, AllocError> {
+        let names = names_of(alloc, text)?;
+        for pattern in self.patterns.iter() {
+            let mut parts = names_of(alloc, pattern.as_str())?;
+            if parts.last() == Some(&"**") {
+                parts.push("*")?;
+            }
+            if matches_path(parts.as_slice(), names.as_slice(), Dots::Hidden) {
+                return Ok(true);
+            }
+        }
+        Ok(false)
+    }
 }
 
-/// Whether a folder is a workspace: the last pattern that it matches counts. Each pattern that it matches keeps that.
+/// Takes back the patterns from a place on that leave folders out, if they match the text of one behind them that doesn't, as npm does.
+pub fn undo(
+    alloc: Global,
+    workspaces: &mut [Workspace],
+    first: usize,
+    behind: &Workspace,
+) -> Result<(), AllocError> {
+    if behind.is_without {
+        return Ok(());
+    }
+    let text = behind.text.as_str().trim_start_matches('!');
+    for workspace in workspaces.iter_mut().skip(first) {
+        if workspace.is_without && workspace.covers(alloc, text)? {
+            workspace.is_undone = true;
+        }
+    }
+    Ok(())
+}
+
+/// Whether a folder is a workspace: it matches a pattern, and none that leaves it out. Each pattern that it matches keeps that.
 pub fn is_workspace(
     alloc: Global,
     workspaces: &mut [Workspace],
     folder: &str,
 ) -> Result<bool, AllocError> {
     let names = names_of(alloc, folder)?;
-    let mut is_in = false;
+    let (mut is_in, mut is_out) = (false, false);
     for workspace in workspaces.iter_mut() {
-        if workspace.matches(alloc, names.as_slice())? {
+        if !workspace.is_undone && workspace.matches(alloc, names.as_slice())? {
             workspace.has_match = true;
-            is_in = !workspace.is_without;
+            is_in |= !workspace.is_without;
+            is_out |= workspace.is_without;
         }
     }
-    Ok(is_in)
+    Ok(is_in && !is_out)
 }

@@ -2,9 +2,9 @@
 
 use patterns::ignored::{Ignored, is_ignored};
 use patterns::paths::names_of;
-use patterns::workspaces::{Workspace, is_workspace};
+use patterns::workspaces::{Workspace, is_workspace, undo};
 use std::alloc::{AllocError, Global};
-use std::collections::HashSet;
+use std::collections::{BTreeMap, HashSet};
 use std::env::VarError;
 use std::io::{BufRead, ErrorKind, Read, Write};
 use std::rt::{Files, Runtime};
@@ -440,6 +440,7 @@ fn add_workspaces<R: Runtime + AllocGlobal, O: Write, E: Write>(
     };
     let mut status = Status::Answered;
     let entries = entries(alloc, path, text.as_str())?;
+    let first = workspaces.len();
     for entry in entries.iter().filter(|entry| entry.kind == Kind::Workspace) {
         let pattern = entry.text.as_str();
         let is_extended = is_extended(pattern);
@@ -458,6 +459,9 @@ fn add_workspaces<R: Runtime + AllocGlobal, O: Write, E: Write>(
             status = status.worse(console.complain(subject, message));
             continue;
         };
+        if path.ends_with("package.json") {
+            undo(alloc, workspaces.as_mut_slice(), first, &workspace)?;
+        }
         workspaces.push(workspace)?;
     }
     Ok(status)
