@@ -66,6 +66,8 @@ LIBC.ptrace.argtypes = (ctypes.c_long, ctypes.c_int, ctypes.c_void_p, ctypes.c_v
 PLENTY, SOON = 200_000, 60
 # How many alternatives two requirements have that are asked about together, and how many seconds that may take.
 ALTERNATIVES, MOMENT = 3_200, 1
+# How many overrides stand in one another.
+LEVELS = 16_000
 
 
 # What is printed of the range `1`, and of the line `^1..2`.
@@ -280,6 +282,16 @@ def many_ranges():
             yield f"{place}: no answer after {MOMENT} seconds"
 
 
+def deep():
+    """Overrides in one another are checked in a moment, however many there are."""
+    text = '{"overrides":' + '{"a":' * LEVELS + '"1"' + "}" * LEVELS + "}"
+    try:
+        found = run(RANGES, {"arguments": ["check", "-"], "stdin": text}, MOMENT)
+        yield None if found == ("", "", 0) else f"{LEVELS} overrides in one another: found {found}"
+    except subprocess.TimeoutExpired:
+        yield f"{LEVELS} overrides in one another: no answer after {MOMENT} seconds"
+
+
 def plenty():
     """Many arguments and many lines are answered, with no more stack than few."""
     def ask(program, arguments, given, wanted):
@@ -483,7 +495,7 @@ def main():
     for program in PROGRAMS.values():
         if not program.is_file():
             sys.exit(f"{program} isn't built: run rt ci first")
-    checks = (rows, unwritable, unreadable, long_texts, many_ranges, plenty, questions, sarif, diffs, live, changed, pages, memory, scarce, closed)
+    checks = (rows, unwritable, unreadable, long_texts, many_ranges, deep, plenty, questions, sarif, diffs, live, changed, pages, memory, scarce, closed)
     if FOLDER:
         checks = (rows,)
     outcomes = [outcome for check in checks for outcome in check()]

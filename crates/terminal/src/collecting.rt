@@ -74,6 +74,8 @@ pub struct Collector {
     alloc: Global,
     format: Format,
     open: Vec<Open>,
+    /// How many of them are arrays.
+    arrays: usize,
     /// The keys on the way.
     path: Vec<String>,
     key: Option<String>,
@@ -87,6 +89,7 @@ impl Collector {
             alloc,
             format,
             open: Vec::new(alloc),
+            arrays: 0,
             path: Vec::new(alloc),
             key: None,
             is_lockfile: false,
@@ -110,7 +113,7 @@ impl Collector {
         } else {
             self.key.as_deref().unwrap_or("")
         };
-        place_of(self.path.as_slice(), last)
+        place_of(self.path.as_slice(), last, self.arrays > 0)
     }
 
     /// Whether the next value holds ranges, or is on the way to some.
@@ -293,11 +296,17 @@ impl Collector {
         if !is_file {
             self.path.push(key)?;
         }
+        if is_array {
+            self.arrays = self.arrays.saturating_add(1);
+        }
         Ok(self.open.push(Open { is_array, keys })?)
     }
 
     /// Closes the last object or array.
     pub fn close(&mut self) {
+        if self.is_in_array() {
+            self.arrays = self.arrays.saturating_sub(1);
+        }
         let _ = self.open.pop();
         let _ = self.path.pop();
         self.key = None;

@@ -102,7 +102,7 @@ pub const ITEM: &str = "[]";
 
 impl Section {
     // Adds what the section says of the place with these keys on the way.
-    fn add(&self, place: &mut Place, path: &[String], last: &str) {
+    fn add(&self, place: &mut Place, path: &[String], last: &str, has_items: bool) {
         let Section(keys, kind, strict) = *self;
         let mut wanted = keys.iter().copied();
         let mut is_deep = false;
@@ -112,13 +112,17 @@ impl Section {
                 Some(key) => key.as_str(),
                 None => last,
             };
-            let want = match wanted.next() {
-                Some(want) => want,
-                None if is_deep => "**",
-                None => return,
+            let Some(want) = wanted.next() else {
+                return;
             };
-            is_deep = want == "**";
-            let is_any = (is_deep || want == "*") && key != ITEM;
+            if want == "**" {
+                if has_items {
+                    return;
+                }
+                is_deep = true;
+                break;
+            }
+            let is_any = want == "*" && key != ITEM;
             if !is_any && want != key {
                 return;
             }
@@ -135,8 +139,8 @@ impl Section {
     }
 }
 
-/// What may stand at the place with these keys on the way.
-pub fn place_of(path: &[String], last: &str) -> Place {
+/// What may stand at the place with these keys on the way, if some of them are items of arrays or none.
+pub fn place_of(path: &[String], last: &str, has_items: bool) -> Place {
     let mut place = Place {
         text: None,
         has_object: false,
@@ -144,7 +148,7 @@ pub fn place_of(path: &[String], last: &str) -> Place {
         is_strict: false,
     };
     for section in &SECTIONS {
-        section.add(&mut place, path, last);
+        section.add(&mut place, path, last, has_items);
     }
     place
 }
