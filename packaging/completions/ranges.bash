@@ -15,8 +15,8 @@ _ranges() {
         return
     fi
     case ${COMP_WORDS[1]} in
-        check) options="--color -j --json --github --sarif -c --canonical --fix --dry-run --exclude --files --rule --strict -q --quiet -h --help -V --version" ;;
-        asked) options="--color -j --json -p --pre -q --quiet -h --help -V --version" ;;
+        check) options="--color -j --json --github --sarif -c --canonical --fix --dry-run --exclude --files -0 --null --rule --strict -q --quiet -h --help -V --version" ;;
+        asked) options="--color -j --json -p --pre --exclude -q --quiet -h --help -V --version" ;;
         explain) options="--color -j --json -g --grammar -p --pre -h --help -V --version" ;;
         canonical|normal) options="--color -j --json -g --grammar -h --help -V --version" ;;
         min) options="--color -j --json -g --grammar -p --pre -q --quiet -h --help -V --version" ;;

@@ -404,7 +404,8 @@ pub fn report<R: Runtime + AllocGlobal, O: Write, E: Write>(
     matches: &ArgMatches<'_>,
 ) -> Result<Status, Stop> {
     let alloc = console.alloc;
-    let found = find(rt, console, matches.get_strs("FOLDER"), &[])?;
+    let excludes = matches.get_strs("exclude").unwrap_or(&[]);
+    let found = find(rt, console, matches.get_strs("FOLDER"), excludes)?;
     let Manifests { groups, mut status } = found;
     let mut manifests = Vec::new(alloc);
     for group in groups.iter() {

@@ -967,7 +967,11 @@ pub fn check<R: Runtime + AllocGlobal, O: Write, E: Write>(
     let groups = groups.as_slice();
     if matches.get_flag("files") {
         for path in groups.iter().flat_map(|group| group.paths.iter()) {
-            print_line(&mut console.out, Shown(path.as_str()))?;
+            if console.options.null {
+                write!(console.out, "{}\0", path.as_str())?;
+            } else {
+                print_line(&mut console.out, Shown(path.as_str()))?;
+            }
         }
         return Ok(status);
     }

@@ -392,7 +392,8 @@ const ON_FILES: &[Entry] = &[
         name: "check",
         about: "Check the ranges of package.json, deno.json, import maps and pnpm-workspace.yaml",
         arguments: &[
-            JSON, GITHUB, SARIF, CANONICAL, FIX, DRY_RUN, EXCLUDE, LIST, RULE, STRICT, QUIET, FILES,
+            JSON, GITHUB, SARIF, CANONICAL, FIX, DRY_RUN, EXCLUDE, LIST, NULL, RULE, STRICT, QUIET,
+            FILES,
         ],
         examples: "\
 Examples:
@@ -412,7 +413,7 @@ Exit status: 0 no error; 1 an error, or with --strict a warning, or --dry-run pr
     Entry {
         name: "asked",
         about: "Print what several manifests ask of the same packages",
-        arguments: &[JSON, PRE, QUIET, FOLDER],
+        arguments: &[JSON, PRE, EXCLUDE, QUIET, FOLDER],
         examples: "\
 Examples:
   ranges asked
