@@ -337,7 +337,53 @@ fn check_dependency<O: Write, E: Write>(
     }
 }
 
-// Checks a specifier; one that isn't of npm or JSR is passed over.
+// Whether a text begins as a URL does, with a scheme.
+fn has_scheme(text: &str) -> bool {
+    let is_sign = |c: char| matches!(c, '+' | '-' | '.');
+    match text.split_once(':') {
+        Some((scheme, _)) => {
+            scheme.starts_with(|c: char| c.is_ascii_alphabetic())
+                && scheme
+                    .chars()
+                    .all(|c| c.is_ascii_alphanumeric() || is_sign(c))
+        }
+        None => false,
+    }
+}
+
+// Checks what an import map has in place of a specifier of npm or JSR: a URL or a path. The keys of Node's imports begin with `#`.
+fn check_address<O: Write, E: Write>(
+    console: &mut Console<O, E>,
+    report: &mut Report<'_>,
+    entry: &Entry,
+) -> Result<(), Stop> {
+    let text = entry.text.as_str();
+    let is_path = ["/", "./", "../"]
+        .iter()
+        .any(|front| text.starts_with(*front));
+    if is_path || has_scheme(text) || entry.name.as_str().starts_with('#') {
+        return Ok(());
+    }
+    let (name, _) = name_and_range(text);
+    let has_letter = name.contains(|c: char| c.is_ascii_alphabetic());
+    let message = if has_letter && is_package_name(name) {
+        format!(in console.alloc;
+            "Deno refuses it: write `npm:{text}` for a package, and `./{text}` for a file"
+        )?
+    } else {
+        String::from_str(
+            console.alloc,
+            "Deno refuses it: a path begins with `./`, `../` or `/`",
+        )?
+    };
+    report.add(
+        console,
+        entry,
+        Finding::new(Cause::Refused, message.as_str()),
+    )
+}
+
+// Checks a specifier; a URL or a path is passed over.
 fn check_specifier<O: Write, E: Write>(
     console: &mut Console<O, E>,
     report: &mut Report<'_>,
@@ -345,7 +391,7 @@ fn check_specifier<O: Write, E: Write>(
 ) -> Result<(), Stop> {
     let text = entry.text.as_str();
     if !text.starts_with("npm:") && !text.starts_with("jsr:") {
-        return Ok(());
+        return check_address(console, report, entry);
     }
     if let Some(message) = url_behind(text) {
         return report.add(console, entry, Finding::new(Cause::Refused, message));
