@@ -17,6 +17,8 @@ const UNCLOSED: &str = "not valid YAML: it isn't closed";
 
 const BARE: &str = "a mapping without braces isn't read: write them";
 
+const COMPLEX: &str = "a key behind `?` isn't read: write it before a colon";
+
 const MERGE: &str = "a merge key isn't read: write what it stands for";
 
 /// Why reading ends early.
@@ -310,6 +312,9 @@ impl<'t> Reader<'t> {
     // The key that the line begins with here, if it does.
     fn key(&self) -> Result<Option<Key>, Stop> {
         let line = self.line_rest();
+        if line.trim_end() == "?" || line.starts_with("? ") {
+            return Err(self.mistake(COMPLEX));
+        }
         let (text, start, end, line, rest) = if line.starts_with(['"', '\''].as_slice()) {
             let Quoted { text, length, .. } = self.quoted_at(self.at)?;
             let rest = line
@@ -439,6 +444,16 @@ impl<'t> Reader<'t> {
         self.end_line()
     }
 
+    // Takes a line that ends the document, behind which nothing may stand.
+    fn end_document(&mut self, is_end: bool) -> Result<(), Stop> {
+        let is_blank = |line: &str| matches!(without_comment(line).trim(), "" | "...");
+        if !is_end || !self.rest().split('\n').skip(1).all(is_blank) {
+            return Err(self.mistake("a second document isn't read"));
+        }
+        self.at = self.file.len();
+        Ok(())
+    }
+
     // Takes a line in block style.
     fn line(&mut self) -> Result<(), Stop> {
         let line = self.line_rest();
@@ -460,7 +475,7 @@ impl<'t> Reader<'t> {
             return Ok(());
         }
         if column == 0 && (bare == "..." || bare == "---" || bare.starts_with("--- ")) {
-            return Err(self.mistake("a second document isn't read"));
+            return self.end_document(bare == "...");
         }
         self.take(column);
         if text.starts_with('\t') {
@@ -511,7 +526,10 @@ impl<'t> Reader<'t> {
             return Ok(Next::Colon);
         }
         let text = self.plain();
-        if text.is_empty() || unread(c).is_some() || text.starts_with("? ") {
+        if text.starts_with("? ") {
+            return Err(self.mistake(COMPLEX));
+        }
+        if text.is_empty() || unread(c).is_some() {
             return Err(self.mistake(INVALID));
         }
         if text == "<<" {
