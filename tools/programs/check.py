@@ -11,7 +11,7 @@ standard error and the status; absent texts are empty. A byte of arguments, inpu
 surrogateescape has it, `\\udcff` for 255. A row may also have
 
     files    an object of files by name, in a folder in which the program runs; each is a text, or an object of `text`, `mode`, and `owner`
-             if another than the one who runs the program owns it; a folder's name ends with `/`
+             if another than the one who runs the program owns it, or of `link`, what a link names; a folder's name ends with `/`
     after    what some of the files hold then, in the same form, and null for one that isn't there
     env      an object of variables for the environment
     tty      a list of `stdin`, `stdout` and `stderr`, each of which is a terminal of its own
@@ -114,6 +114,9 @@ def room_of(files):
             path = pathlib.Path(room) / name
             held = held if isinstance(held, dict) else {"text": held}
             path.parent.mkdir(parents=True, exist_ok=True)
+            if "link" in held:
+                path.symlink_to(held["link"])
+                continue
             if name.endswith("/"):
                 path.mkdir()
             else:

@@ -541,6 +541,56 @@ fn add_members<R: Runtime + AllocGlobal, O: Write, E: Write>(
     Ok(status)
 }
 
+// Adds the folders in a folder that isn't read otherwise, to the ones that wait; and matches those with a manifest, and links to such.
+fn mark_in<R: Runtime + AllocGlobal>(
+    rt: &R,
+    folder: &str,
+    workspaces: &mut [Workspace],
+    waiting: &mut Vec<String>,
+) -> io::Result<()> {
+    let alloc = rt.alloc();
+    for entry in fs::read_dir(rt, shown_folder(folder))? {
+        let entry = match entry {
+            Ok(entry) => entry,
+            Err(error) if error.kind() == ErrorKind::InvalidFilename => continue,
+            Err(error) => return Err(error),
+        };
+        let name = entry.file_name();
+        let kind = entry.file_type()?;
+        let is_folder = kind.is_dir();
+        if matches!(name, "node_modules" | ".git") || !is_folder && !kind.is_symlink() {
+            continue;
+        }
+        let path = joined(alloc, folder, name)?;
+        if !manifests_at(rt, path.as_str())?.is_empty() {
+            let _ = is_workspace(alloc, workspaces, path.as_str())?;
+        }
+        if is_folder {
+            waiting.push(path)?;
+        }
+    }
+    Ok(())
+}
+
+// Matches the folders below this one that git ignores, and links to folders, which npm takes for workspaces as well.
+fn mark_hidden<R: Runtime + AllocGlobal>(
+    rt: &R,
+    workspaces: &mut [Workspace],
+) -> Result<(), AllocError> {
+    let mut waiting = vec![in rt.alloc(); String::new(rt.alloc())]?;
+    for _ in 0..u64::MAX {
+        let Some(folder) = waiting.pop() else {
+            break;
+        };
+        match mark_in(rt, folder.as_str(), workspaces, &mut waiting) {
+            Err(error) if error.kind() == ErrorKind::OutOfMemory => return Err(AllocError),
+            // What can't be read matches nothing.
+            Ok(()) | Err(_) => (),
+        }
+    }
+    Ok(())
+}
+
 // Finds the manifests of this folder, and those of its workspaces.
 fn manifests_here<R: Runtime + AllocGlobal, O: Write, E: Write>(
     rt: &R,
@@ -575,6 +625,10 @@ fn manifests_here<R: Runtime + AllocGlobal, O: Write, E: Write>(
     let members = workspaces.as_mut_slice();
     let told = add_members(rt, console, excludes, members, &mut found)?;
     *status = status.worse(told);
+    let is_unmatched = |it: &Workspace| !it.has_match && !it.is_without;
+    if excludes.is_empty() && workspaces.iter().any(is_unmatched) {
+        mark_hidden(rt, workspaces.as_mut_slice())?;
+    }
     for workspace in workspaces {
         if excludes.is_empty() && !workspace.has_match && !workspace.is_without {
             found.unmatched.push(workspace.text)?;
