@@ -30,7 +30,8 @@ mod walking;
 
 use clap::ArgMatches;
 use clap::error::ErrorKind as Mistake;
-use std::env::Env;
+use std::alloc::AllocError;
+use std::env::{Env, FillError};
 use std::io::{BufWriter, IsTerminal, Write};
 use std::process::ExitCode;
 use std::rt::Runtime;
@@ -161,6 +162,47 @@ fn run<R: Runtime + AllocGlobal, E: Write + Drop>(
     }
 }
 
+// The bytes of the argument at a place, if there is one.
+fn argument<R: Env + AllocGlobal>(rt: &R, place: usize) -> io::Result<Option<Vec<u8>>> {
+    let mut size = 256usize;
+    for _ in 0..usize::BITS {
+        let mut bytes = Vec::new(rt.alloc());
+        if bytes.resize(size, 0u8).is_err() {
+            break;
+        }
+        match rt.arg(place, bytes.as_mut_slice()) {
+            Ok(length) => {
+                bytes.truncate(length);
+                return Ok(Some(bytes));
+            }
+            Err(FillError::NotPresent) => return Ok(None),
+            Err(FillError::TooLong) => size = size.saturating_mul(2),
+        }
+    }
+    Err(io::Error::from(AllocError))
+}
+
+// The arguments. One of `check` that isn't valid UTF-8 becomes the name of no file, which is reported, and the others are checked.
+fn arguments<R: Env + AllocGlobal>(rt: &R) -> io::Result<Vec<String>> {
+    let mut all: Vec<String> = Vec::new(rt.alloc());
+    for place in 0..usize::MAX {
+        let Some(bytes) = argument(rt, place)? else {
+            break;
+        };
+        let bytes = bytes.as_slice();
+        let is_of_check = all
+            .get(1)
+            .is_some_and(|command| command.as_str() == "check");
+        let text = match str::from_utf8(bytes) {
+            Ok(text) => String::from_str(rt.alloc(), text)?,
+            Err(_) if is_of_check => String::from_utf8_lossy(rt.alloc(), bytes)?,
+            Err(_) => return Err(io::Error::from(io::ErrorKind::InvalidData)),
+        };
+        all.push(text)?;
+    }
+    Ok(all)
+}
+
 fn style(is_terminal: bool, is_plain: bool) -> Style {
     if is_terminal && !is_plain {
         Style::Colored
@@ -179,11 +221,7 @@ fn main(rt: HostRuntime) -> ExitCode {
         out: style(rt.stdout().is_terminal(), is_plain),
         err: style(rt.stderr().is_terminal(), is_plain),
     };
-    let arguments: io::Result<Vec<String>> = env::args(&rt).and_then(|arguments| {
-        let arguments = arguments.collect(rt.alloc())?;
-        Ok(arguments)
-    });
-    let outcome = match arguments {
+    let outcome = match arguments(&rt) {
         Ok(arguments) => run(&rt, rt.stderr(), terminal, arguments.as_slice()),
         Err(error) => Err(Stop::of(error, Stop::NoText)),
     };

@@ -748,6 +748,9 @@ pub fn read_file<R: Input + Files + AllocGlobal, O: Write, E: Write>(
         Ok(text) => return Ok(text),
         Err(error) => match error.kind() {
             ErrorKind::OutOfMemory => return Err(Stop::OutOfMemory),
+            ErrorKind::NotFound if file.contains(char::REPLACEMENT_CHARACTER) => {
+                "no such file, or its name isn't valid UTF-8"
+            }
             ErrorKind::NotFound => "no such file",
             ErrorKind::PermissionDenied => "permission denied",
             ErrorKind::IsADirectory => "is a directory",
