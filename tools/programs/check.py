@@ -68,6 +68,8 @@ PLENTY, SOON = 200_000, 60
 ALTERNATIVES, MOMENT = 3_200, 1
 # How many overrides stand in one another.
 LEVELS = 16_000
+# How many files of a workspace are named, and how many packages its own manifest asks for.
+NAMED = 1_000
 
 
 # What is printed of the range `1`, and of the line `^1..2`.
@@ -295,6 +297,18 @@ def deep():
         yield f"{LEVELS} overrides in one another: no answer after {MOMENT} seconds"
 
 
+def named():
+    """Files of one workspace that are named are checked in a moment, since its own manifest is read once."""
+    own = {"workspaces": ["p/*"], "devDependencies": {f"d{n}": "^1.0.0" for n in range(NAMED)}}
+    names = [f"p/{n}/package.json" for n in range(NAMED)]
+    files = {"package.json": json.dumps(own), **dict.fromkeys(names, '{"dependencies": {"a": "^1.0.0"}}')}
+    try:
+        found = run(RANGES, {"arguments": ["check", *names], "files": files}, MOMENT)
+        yield None if found == ("", "", 0) else f"{NAMED} files of a workspace: found {found}"
+    except subprocess.TimeoutExpired:
+        yield f"{NAMED} files of a workspace: no answer after {MOMENT} seconds"
+
+
 def plenty():
     """Many arguments and many lines are answered, with no more stack than few."""
     def ask(program, arguments, given, wanted):
@@ -498,7 +512,7 @@ def main():
     for program in PROGRAMS.values():
         if not program.is_file():
             sys.exit(f"{program} isn't built: run rt ci first")
-    checks = (rows, unwritable, unreadable, long_texts, many_ranges, deep, plenty, questions, sarif, diffs, live, changed, pages, memory, scarce, closed)
+    checks = (rows, unwritable, unreadable, long_texts, many_ranges, deep, named, plenty, questions, sarif, diffs, live, changed, pages, memory, scarce, closed)
     if FOLDER:
         checks = (rows,)
     outcomes = [outcome for check in checks for outcome in check()]

@@ -53,6 +53,14 @@ impl Group {
             above: Vec::new(alloc),
         }
     }
+
+    // Whether no levels but those of the same manifests above count for all of both.
+    fn shares(&self, other: &Group) -> bool {
+        match (self.above.first(), other.above.first()) {
+            (Some(one), Some(another)) => self.own == 0 && one.as_str() == another.as_str(),
+            (_, _) => false,
+        }
+    }
 }
 
 /// What was found.
@@ -487,11 +495,68 @@ fn manifests_at<R: Files + AllocGlobal>(rt: &R, folder: &str) -> Result<Vec<Stri
     Ok(found)
 }
 
-// The manifests of the workspace that a folder belongs to: those of the nearest folder above whose patterns match it.
+// Whether a folder is a workspace, or holds one among the manifests that were found in it. The patterns name it by the second path.
+fn holds_workspace(
+    alloc: Global,
+    workspaces: &mut [Workspace],
+    folder: &str,
+    below: &str,
+    found: &[String],
+) -> Result<bool, AllocError> {
+    if workspaces.is_empty() || is_workspace(alloc, workspaces, below)? {
+        return Ok(!workspaces.is_empty());
+    }
+    for path in found {
+        let (own, _) = split_path(path.as_str());
+        let rest = own.strip_prefix(folder).unwrap_or("");
+        let whole = format!(in alloc; "{below}/{rest}")?;
+        if is_workspace(alloc, workspaces, whole.as_str())? {
+            return Ok(true);
+        }
+    }
+    Ok(false)
+}
+
+// A folder that may be the root of a workspace.
+#[derive(Drop)]
+struct Root {
+    manifests: Vec<String>,
+    workspaces: Vec<Workspace>,
+}
+
+// The folders that were asked so far, by paths.
+type Roots = BTreeMap<String, Root>;
+
+// What a folder says of workspaces. It is read once.
+fn root_at<'r, R: Runtime + AllocGlobal, O: Write, E: Write>(
+    rt: &R,
+    console: &mut Console<O, E>,
+    folder: &str,
+    roots: &'r mut Roots,
+) -> Result<Option<&'r mut Root>, Stop> {
+    let alloc = rt.alloc();
+    if !roots.contains_key(folder) {
+        let manifests = manifests_at(rt, folder)?;
+        let mut workspaces = Vec::new(alloc);
+        for manifest in manifests.iter() {
+            let _ = add_workspaces(rt, console, manifest.as_str(), &mut workspaces)?;
+        }
+        let root = Root {
+            manifests,
+            workspaces,
+        };
+        let _ = roots.insert(String::from_str(alloc, folder)?, root)?;
+    }
+    Ok(roots.get_mut(folder))
+}
+
+// The manifests of the workspace that a folder belongs to, or what was found in it: those of the nearest folder above whose patterns match.
 fn manifests_above<R: Runtime + AllocGlobal, O: Write, E: Write>(
     rt: &R,
     console: &Console<O, E>,
     folder: &str,
+    found: &[String],
+    roots: &mut Roots,
 ) -> Result<Vec<String>, Stop> {
     let alloc = console.alloc;
     let real = match fs::canonicalize(rt, shown_folder(folder)) {
@@ -508,13 +573,16 @@ fn manifests_above<R: Runtime + AllocGlobal, O: Write, E: Write>(
             .as_slice()
             .split_at_checked(count)
             .unwrap_or((&[], &[]));
-        let manifests = manifests_at(rt, path_of(alloc, front)?.as_str())?;
-        let mut workspaces = Vec::new(alloc);
-        for manifest in manifests.iter() {
-            let _ = add_workspaces(rt, &mut silent, manifest.as_str(), &mut workspaces)?;
-        }
-        let below = path_of(alloc, behind)?;
-        if is_workspace(alloc, workspaces.as_mut_slice(), below.as_str())? {
+        let (path, below) = (path_of(alloc, front)?, path_of(alloc, behind)?);
+        let Some(root) = root_at(rt, &mut silent, path.as_str(), roots)? else {
+            continue;
+        };
+        let patterns = root.workspaces.as_mut_slice();
+        if holds_workspace(alloc, patterns, folder, below.as_str(), found)? {
+            let mut manifests = Vec::new(alloc);
+            for manifest in root.manifests.iter() {
+                manifests.push(manifest.clone()?)?;
+            }
             return Ok(manifests);
         }
     }
@@ -769,6 +837,7 @@ pub fn find<R: Runtime + AllocGlobal, O: Write, E: Write>(
     excludes: &[&str],
 ) -> Result<Manifests, Stop> {
     let alloc = console.alloc;
+    let mut roots = BTreeMap::new(alloc);
     let mut all = Manifests {
         groups: Vec::new(alloc),
         status: Status::Answered,
@@ -776,7 +845,7 @@ pub fn find<R: Runtime + AllocGlobal, O: Write, E: Write>(
     if files.is_none() {
         let mut status = Status::Answered;
         let mut found = manifests_here(rt, console, excludes, &mut status)?;
-        found.above = manifests_above(rt, console, "")?;
+        found.above = manifests_above(rt, console, "", &[], &mut roots)?;
         all.status = with_something(console, ".", &found, status);
         all.groups.push(found)?;
     }
@@ -792,13 +861,21 @@ pub fn find<R: Runtime + AllocGlobal, O: Write, E: Write>(
             found = manifests_in(rt, console, file, excluded(alloc, excludes)?, &mut status)?;
             let status = with_something(console, file, &found, status);
             all.status = all.status.worse(status);
-            found.above = manifests_above(rt, console, file)?;
+            let paths = found.paths.as_slice();
+            found.above = manifests_above(rt, console, file, paths, &mut roots)?;
         } else {
-            found.paths.push(String::from_str(alloc, file)?)?;
+            let path = String::from_str(alloc, file)?;
             let (folder, name) = split_path(file);
             if NAMES.contains(&name) {
-                found.above = manifests_above(rt, console, folder)?;
+                found.above = manifests_above(rt, console, folder, &[], &mut roots)?;
             }
+            if let Some(last) = all.groups.last_mut()
+                && last.shares(&found)
+            {
+                last.paths.push(path)?;
+                continue;
+            }
+            found.paths.push(path)?;
         }
         all.groups.push(found)?;
     }
