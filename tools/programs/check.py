@@ -434,6 +434,7 @@ def sarif():
         ("version", log["version"], "2.1.0"),
         ("columnKind", told["columnKind"], "unicodeCodePoints"),
         ("name", driver["name"], "ranges"),
+        ("version of the program", f"ranges {driver.get('version')}\n", run(RANGES, {"arguments": ["--version"]})[0]),
         ("rules", sorted(it["id"] for it in driver["rules"]), sorted([*rules, "canonical", "invalid"])),
         ("texts of rules", [all(it[key]["text"] for key in RULE_TEXTS) for it in driver["rules"]], [True] * len(driver["rules"])),
         ("rules that are off", [it["id"] for it in driver["rules"] if not it["defaultConfiguration"].get("enabled", True)], RULES_OFF),

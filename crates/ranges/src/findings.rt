@@ -10,6 +10,7 @@ use serde_json::Value;
 use std::alloc::{AllocError, Global};
 use std::fmt;
 use std::io::Write;
+use terminal::args::VERSION;
 use terminal::console::{Console, END, ERROR, Status, Stop, WARNING, print_line};
 use terminal::entry::Entry;
 use terminal::sections::Kind;
@@ -145,7 +146,10 @@ impl Format {
         match self {
             Format::Sarif => {
                 let rules = sarif_rules(console.alloc)?.to_string(console.alloc)?;
-                Ok(write!(console.out, "{SARIF_FRONT}{rules}{SARIF_MIDDLE}")?)
+                Ok(write!(
+                    console.out,
+                    "{SARIF_FRONT}{rules},\"version\":\"{VERSION}\"{SARIF_MIDDLE}"
+                )?)
             }
             Format::Silent | Format::Lines | Format::Json | Format::GitHub => Ok(()),
         }
@@ -228,7 +232,7 @@ fn uri(alloc: Global, path: &str) -> Result<String, AllocError> {
     Ok(all)
 }
 
-// SARIF up to its rules, and between those and its results.
+// SARIF up to its rules, and between the program's version and its results.
 const SARIF_FRONT: &str = "\
 {\"$schema\":\"https://json.schemastore.org/sarif-2.1.0.json\",\"version\":\"2.1.0\",\
 \"runs\":[{\"columnKind\":\"unicodeCodePoints\",\"tool\":{\"driver\":{\"name\":\"ranges\",\"rules\":";

@@ -6,7 +6,8 @@ use semver_base::range::PreRelease;
 use semver_req::common::values::Flavour;
 use std::alloc::{AllocError, Global};
 
-const VERSION: &str = "0.1.0";
+/// The program's version.
+pub const VERSION: &str = "0.1.0";
 
 /// The grammars of ranges, and an old name of one that is still taken.
 pub fn grammars<'a>() -> [PossibleValue<'a>; 3] {
