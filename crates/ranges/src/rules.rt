@@ -4,6 +4,9 @@ use std::alloc::{AllocError, Global};
 use std::fmt;
 use strsim::osa_distance;
 
+// The name that stands for every rule.
+const ALL: &str = "all";
+
 // Of so many letters one may be wrong.
 const MANY_LETTERS: usize = 4;
 
@@ -243,7 +246,7 @@ impl Levels {
         }
     }
 
-    /// Sets the level of the rule with this name, or says what isn't known.
+    /// Sets the level of the rule with this name, or of all rules, or says what isn't known.
     pub fn set(
         &mut self,
         alloc: Global,
@@ -256,6 +259,10 @@ impl Levels {
             "error" => Level::Error,
             _ => return Ok(Some(Unknown::Level)),
         };
+        if name == ALL {
+            self.0 = [level; COUNT];
+            return Ok(None);
+        }
         let Some(place) = RULES.iter().position(|about| about.name == name) else {
             return Ok(Some(Unknown::Rule(nearest(alloc, name)?)));
         };
