@@ -29,9 +29,23 @@ def parsers():
             pass
 
 
+def beside():
+    """Prints the times of each package, which are asked in turn."""
+    times = {}
+    for _ in range(5):
+        for name, parse in parsers():
+            parsed, versions = fastest(lambda: [parse(text) for text in TEXTS], 1)
+            shown, _ = fastest(lambda: [str(version) for version in versions], 1)
+            numbers, _ = fastest(lambda: [(it.major, it.minor) for it in versions], 1)
+            ordered, _ = fastest(lambda: sorted(versions), 1)
+            times.setdefault(name, []).append((parsed, shown, numbers, ordered))
+    for name, passes in times.items():
+        parsed, shown, numbers, ordered = (min(it) / 100 for it in zip(*passes))
+        print(f"{name}: parse {parsed:.2f}, str {shown:.2f}, the numbers {numbers:.2f}, sort {ordered:.2f} µs a version")
+
+
 def main():
-    for name, parse in parsers():
-        print(f"{name}: {fastest(lambda: [parse(text) for text in TEXTS], 5)[0] / 100:.2f} µs a version")
+    beside()
     versions = [semver.Version(text) for text in TEXTS]
     for text in ("^1.2", ">=1.2 <2 || 3.x || ~5.6.7"):
         held = semver.Range(text)
@@ -42,12 +56,6 @@ def main():
         assert found == again == last == [str(version) for version in values]
         print(f"{text}: filter {once:.0f} ms, Range.matches {of_texts:.0f} ms, of a Version {of_values:.0f} ms, matches {each:.0f} ms")
     print(f"sort {fastest(lambda: semver.sort(TEXTS), 5)[0]:.0f} ms, Version {fastest(lambda: [semver.Version(text) for text in TEXTS], 1)[0]:.0f} ms")
-    # `precedes` makes a call for each comparison, and `<` where two versions have the same numbers.
-    by_call = functools.cmp_to_key(lambda one, other: -one.precedes(other))
-    called, ordered = fastest(lambda: sorted(versions, key=by_call), 3)
-    numbered, again = fastest(lambda: sorted(versions), 3)
-    assert ordered == again
-    print(f"sorted, of Versions: {numbered:.0f} ms, by calls alone {called:.0f} ms")
 
 
 main()

@@ -11,10 +11,8 @@ from typing import Any, Callable, List, Literal, NamedTuple, Optional, Tuple, Un
 from ._calls import (
     CALLS,
     GRAMMARS,
-    SHORT,
     TAG,
     YES,
-    Short,
     encoded,
     fail_range,
     fail_version,
@@ -27,12 +25,17 @@ from ._calls import (
 from ._errors import InvalidRange, InvalidVersion, TagError
 from ._table import Handle
 
-_DISPLAY = CALLS["version"]
 _HOLDING = Lock()  # a version, which threads may share, is held once
 
 Grammar = Literal["npm", "normalized", "strict"]
 
 _PARTS = re.compile(r"[\d.]+(?:-([^+]*))?(?:\+(.*))?")
+
+_NUMBER = r"(?:0|[1-9][0-9]{0,14})"
+_IDENTIFIER = r"(?:0|[1-9][0-9]*|[0-9]*[A-Za-z-][A-Za-z0-9-]*)"
+# Versions as most are: by the strict grammar of SemVer, without a build, and with numbers of at most 15 digits. The library takes each of
+# them, and displays it as it stands, so it isn't asked.
+_is_plain = re.compile(rf"{_NUMBER}\.{_NUMBER}\.{_NUMBER}(?:-{_IDENTIFIER}(?:\.{_IDENTIFIER})*)?").fullmatch
 
 
 class Held:
@@ -53,6 +56,15 @@ class Held:
         if self._handle.at is None:
             raise ValueError("the value was freed")
         return byref(self._handle)
+
+
+def _displayed(text: str) -> str:
+    """The version as the library displays it."""
+    source = encoded(text, "text", InvalidVersion)
+    code, displayed = read("version", source, len(source))
+    if code != YES:
+        fail_version(code, text)
+    return displayed
 
 
 @total_ordering
@@ -77,17 +89,8 @@ class Version:
     _held: Optional[Held]
 
     def __new__(cls, text: str) -> Version:
-        source = encoded(text, "text", InvalidVersion)
-        # As `read` does, without its generality, since this is the call that is made most.
-        out, needed = Short(), c_size_t()
-        code = _DISPLAY(source, len(source), out, SHORT, byref(needed))
-        written = out.value.decode()
-        if code != YES or needed.value > SHORT:
-            code, written = read("version", source, len(source))
-        if code != YES:
-            fail_version(code, text)
         self = object.__new__(cls)
-        self._text = written
+        self._text = text if type(text) is str and _is_plain(text) else _displayed(text)
         self._numbers = ()
         self._held = None
         return self
@@ -115,7 +118,8 @@ class Version:
     def _keep_numbers(self) -> Tuple[int, ...]:
         """The three numbers, which are kept from the first time on."""
         if not self._numbers:
-            self._numbers = tuple(map(int, self._text.partition("+")[0].partition("-")[0].split(".")))
+            numbers = self._text if self._is_release() else self._text.partition("+")[0].partition("-")[0]
+            self._numbers = tuple(map(int, numbers.split(".")))
         return self._numbers
 
     def _part(self, number: int) -> str:
@@ -125,15 +129,15 @@ class Version:
 
     @property
     def major(self) -> int:
-        return self._keep_numbers()[0]
+        return (self._numbers or self._keep_numbers())[0]
 
     @property
     def minor(self) -> int:
-        return self._keep_numbers()[1]
+        return (self._numbers or self._keep_numbers())[1]
 
     @property
     def patch(self) -> int:
-        return self._keep_numbers()[2]
+        return (self._numbers or self._keep_numbers())[2]
 
     @property
     def pre(self) -> Tuple[str, ...]:
@@ -195,7 +199,10 @@ class Version:
         """
         if not isinstance(other, Version):
             wrong_type(other, "other", "Version")
-        return CALLS["version_compare"](self._lent(), other._lent()) == 0
+        one, two = self._keep_numbers(), other._keep_numbers()
+        if one != two:
+            return one < two
+        return self._text != other._text and CALLS["version_compare"](self._lent(), other._lent()) == 0
 
 
 class Scan(NamedTuple):

@@ -9,6 +9,7 @@ import inspect
 import itertools
 import os
 import pickle
+import random
 import re
 import sys
 import threading
@@ -128,6 +129,47 @@ class Values(unittest.TestCase):
     def test_many(self):
         versions = [f"{n % 7}.{n % 11}.{n}" for n in range(100_000)]
         self.assertEqual(len(semver.filter("^1.2 || 3", versions)), sum(n % 7 == 1 and n % 11 >= 2 or n % 7 == 3 for n in range(100_000)))
+
+
+class Plain(unittest.TestCase):
+    """Plain versions, which the package takes without asking the library."""
+
+    def test_random(self):
+        pick = random.Random(1)
+        numbers = ("0", "1", "9", "10", "007", "999999999999999", "1000000000000000", "18446744073709551616", "\u0661", "")
+        identifiers = ("0", "1", "01", "0a", "a", "-", "--1", "rc", "RC-1", "18446744073709551616", "_", "é", "\u0661", "")
+        plain = 0
+        for _ in range(300_000):
+            count = 3 if pick.randrange(20) else pick.randrange(5)
+            text = ".".join(pick.choices(numbers, k=count))
+            if pick.randrange(2):
+                text += "-" + ".".join(pick.choices(identifiers, k=pick.randrange(4)))
+            if _values._is_plain(text):
+                plain += 1
+                source = text.encode()
+                self.assertEqual(_calls.read("version", source, len(source)), (_calls.YES, text), text)
+        self.assertGreater(plain, 20_000)
+
+    def test_which(self):
+        for text in ("1.2.3", "0.0.0", "999999999999999.0.0", "1.2.3-0", "1.2.3-rc.1", "1.2.3--", "1.2.3-0a.18446744073709551616"):
+            self.assertTrue(_values._is_plain(text), text)
+        for text in ("1.2", "1.2.3.4", "01.2.3", "1.2.03", "1.2.3-01", "1.2.3-", "1.2.3+b", "v1.2.3", " 1.2.3", "1.2.3\n", "1000000000000000.0.0"):
+            self.assertFalse(_values._is_plain(text), text)
+
+    def test_no_call(self):
+        with mock.patch.dict(_calls.CALLS, dict.fromkeys(_calls.CALLS)):
+            version = Version("1.10.0-rc.1")
+            self.assertEqual((str(version), version.minor, version.pre), ("1.10.0-rc.1", 10, ("rc", "1")))
+            self.assertTrue(Version("1.9.0").precedes(version))
+            self.assertRaises(TypeError, Version, "v1.10.0")
+
+    def test_strings_of_another_class(self):
+        class Text(str):
+            def __str__(self):
+                return "another string"
+
+        self.assertEqual(type(str(Version(Text("1.2.3")))), str)
+        self.assertEqual(Version(Text("1.2.3")), Version("1.2.3"))
 
 
 class Lists(unittest.TestCase):
@@ -353,7 +395,7 @@ class Lifetimes(unittest.TestCase):
         self.assertRaises((TypeError, ValueError), Range, "1", "x")
 
     def test_deletion_by_hand(self):
-        version, other = Version("1.0.0"), Version("2.0.0")
+        version, other = Version("1.0.0-a"), Version("1.0.0")
         self.assertTrue(version.precedes(other))
         version._held.__del__()
         self.assertRaises(ValueError, version.precedes, other)
@@ -379,7 +421,7 @@ class Lifetimes(unittest.TestCase):
             lambda: semver.sort([long]),
             lambda: semver.filter("1 || 2", [long]),
             lambda: semver.best("1", [long]),
-            lambda: Version(long),
+            lambda: Version(f"v{long}"),
             lambda: Range("1 || 2 || 3"),
             lambda: range_.matches(long),
             lambda: semver.common("1 || 2", "2 || 3"),
@@ -422,13 +464,13 @@ class Lifetimes(unittest.TestCase):
 
     def _ask_by_threads(self):
         """Asks the same values by eight threads at once."""
-        range_, versions = Range("^1.2 || 3"), [Version(f"1.{n}.0-a.{n}+b") for n in range(50)]
+        range_, versions = Range("^1.2 || 3"), [Version(f"1.{n // 10 + 2}.0-a.{n}+b") for n in range(50)]
         wrong = []
 
         def ask():
             for _ in range(20):
                 found = [version for version in versions if range_.matches(version, pre_releases=True)]
-                if len(found) != 47 or semver.sort(versions) != versions:
+                if len(found) != 40 or semver.sort(versions) != versions:
                     wrong.append(found)
                 before = [one.precedes(other) for one, other in zip(versions, [*versions[1:], versions[-1]])]
                 if before.count(True) != 49 or not (range_ == range_ and range_.intersects(range_)):
