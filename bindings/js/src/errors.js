@@ -111,7 +111,11 @@ export function reasonOf(kind, grammar, source) {
 
 /** The error that a text of a kind is invalid; `index` is its place in a list. */
 export function invalid(kind, grammar, source, index) {
-  const message = messageOf(kind, grammar, source) ?? 'The string is invalid.';
+  return invalidBy(messageOf(kind, grammar, source) ?? 'The string is invalid.', kind, grammar, source, index);
+}
+
+/** The same with the message, which the call that parses the text wrote. */
+export function invalidBy(message, kind, grammar, source, index) {
   return new kind.Problem(source, message, index, () => placeOf(kind, grammar, source));
 }
 

@@ -1,25 +1,26 @@
 // The ranges that were asked last, which the library holds. A call with the text of a range thus parses it once, and makes no value that
 // must be freed.
 
-import { NO_MEMORY, YES, ask2, askHeld, currentInstance, handle, outOfMemory, wasm, write } from './calls.js';
+import { INVALID_RANGE, YES, ask2, askHeld, currentInstance, handle, text, wasm, write } from './calls.js';
+import { RANGE, errorOf, invalidBy } from './errors.js';
 
 const MOST_RANGES = 1000;
 const LONGEST_RANGE = 256;
 const caches = [new Map(), new Map(), new Map()];
-let cachedIn = currentInstance();
+let cachedIn = 0; // no instance yet: to make one takes most of the time of a first call, and an import makes none
 
-/** Parses a range, and returns the address at which the library holds it, or the code why it doesn't. */
+/** Parses a range, and returns the address at which the library holds it. */
 export function parse(grammar, range) {
   const code = wasm.range_read(grammar, write(range));
-  if (code === NO_MEMORY) throw outOfMemory();
-  return code === YES ? handle() : code;
+  if (code === YES) return handle();
+  throw code === INVALID_RANGE ? invalidBy(text(), RANGE, grammar, range) : errorOf(code, grammar, [range]);
 }
 
 /** Makes room for one more. */
 function forgetOldest(cache) {
   const [range, address] = cache.entries().next().value;
   cache.delete(range);
-  if (address > 0) wasm.range_free(address);
+  wasm.range_free(address);
 }
 
 /** Forgets the addresses of an instance that was replaced. */
@@ -28,7 +29,7 @@ function forgetAll() {
   cachedIn = currentInstance();
 }
 
-/** The address at which the library holds a short range, or the code why it doesn't. */
+/** The address at which the library holds a short range. */
 function addressOf(grammar, range) {
   if (cachedIn !== currentInstance()) forgetAll();
   const cache = caches[grammar];
@@ -42,7 +43,6 @@ function addressOf(grammar, range) {
 
 /** The code of whether the version matches. */
 export function askFits(grammar, range, version, pre) {
-  const address = range.length <= LONGEST_RANGE ? addressOf(grammar, range) : 0;
-  if (address < 0) return address;
-  return address > 0 ? askHeld(address, version, pre) : ask2(wasm.fits, grammar, range, version, pre);
+  if (range.length > LONGEST_RANGE) return ask2(wasm.fits, grammar, range, version, pre);
+  return askHeld(addressOf(grammar, range), version, pre);
 }

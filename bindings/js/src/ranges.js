@@ -45,12 +45,7 @@ class Held {
 
 /** Parses a range, which the library then holds for its owner. */
 function hold(owner, grammar, range) {
-  const make = () => {
-    const address = parse(grammar, range);
-    if (address < 0) throw errorOf(address, grammar, [range]);
-    return address;
-  };
-  return new Held(owner, make, wasm.range_free);
+  return new Held(owner, () => parse(grammar, range), wasm.range_free);
 }
 
 // Asks of a range by its address, which is private to `Range`.

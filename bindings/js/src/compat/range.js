@@ -93,7 +93,7 @@ function keep(text, options, reading) {
 /** What a text reads as; null where it's invalid. Most invalid texts are found without an error, which costs ten times as much. */
 function readingOf(text, options) {
   const found = knownOf(options).get(text);
-  return found === undefined ? keep(text, options, hasOnlyComparators(text, options) ? orNull(() => read(text, options)) : null) : found;
+  return found === undefined ? keep(text, options, readOrNull(text, options)) : found;
 }
 
 /** The same, and `TypeError` where it's invalid. */
@@ -101,10 +101,11 @@ function expectReading(text, options) {
   return knownOf(options).get(text) ?? keep(text, options, read(text, options));
 }
 
-function hasOnlyComparators(text, options) {
-  if (typeof text !== 'string') return false;
-  if (options.loose) return true; // which leaves others out
-  return alternativesOf(withSingleSpaces(text)).every((it) => desugar(it, options).every((token) => isComparator(token, options)));
+function readOrNull(text, options) {
+  const raw = withSingleSpaces(text);
+  const alternatives = desugared(raw, options);
+  const isValid = options.loose || alternatives.flat().every((it) => isComparator(it, options)); // `loose` leaves others out
+  return isValid ? orNull(() => readDesugared(raw, alternatives, options)) : null;
 }
 
 function orNull(call) {
@@ -119,7 +120,11 @@ function orNull(call) {
 function read(text, options) {
   if (typeof text !== 'string') throw new TypeError(`range must be a string, a Range or a Comparator, not ${kindOf(text)}`);
   const raw = withSingleSpaces(text);
-  const set = setOf(raw, options);
+  return readDesugared(raw, desugared(raw, options), options);
+}
+
+function readDesugared(raw, alternatives, options) {
+  const set = setOf(raw, alternatives, options);
   return { raw, set, range: textOf(set) };
 }
 
@@ -127,13 +132,14 @@ function withSingleSpaces(text) {
   return text.trim().split(/\s+/).join(' ');
 }
 
-function alternativesOf(range) {
-  return range.split('||').map((text) => text.trim());
+/** The texts of the comparators of each alternative. */
+function desugared(range, options) {
+  return range.split('||').map((text) => desugar(text.trim(), options));
 }
 
 /** The alternatives of a range. Where one matches any version it is the only one, and those that match nothing are left out. */
-function setOf(range, options) {
-  const read = alternativesOf(range).map((text) => comparatorsOf(text, options)).filter((comparators) => comparators.length > 0);
+function setOf(range, alternatives, options) {
+  const read = alternatives.map((texts) => comparatorsOf(texts, options)).filter((comparators) => comparators.length > 0);
   if (read.length === 0) throw new TypeError(`Invalid SemVer Range: ${range}`);
   const set = read.filter(([first]) => first.value !== NOTHING);
   if (set.length === 0) return [read[0]];
@@ -142,10 +148,9 @@ function setOf(range, options) {
 }
 
 /** The comparators of an alternative, each once. One that matches nothing is the only one, and one that matches any version isn't kept. */
-function comparatorsOf(text, options) {
-  let texts = desugar(text, options);
-  if (options.loose) texts = texts.filter((it) => isComparator(it, options));
-  const comparators = texts.map((it) => new Comparator(it, options));
+function comparatorsOf(texts, options) {
+  const known = options.loose ? texts.filter((it) => isComparator(it, options)) : texts;
+  const comparators = known.map((it) => new Comparator(it, options));
   const nothing = comparators.find(({ value }) => value === NOTHING);
   if (nothing) return [nothing];
   const byValue = new Map(comparators.map((it) => [it.value, it]));
