@@ -13,6 +13,32 @@ use std::borrow::Cow;
 use std::cmp::Ordering;
 use std::fmt;
 
+/// Whether the text is a range as most are: `^`, `~` or nothing before one to three numbers of at most 15 digits and without leading zeros.
+/// Every grammar has it, and it is no tag.
+#[inline]
+pub(crate) fn is_plain_range(text: &str) -> bool {
+    let partial = match text.as_bytes() {
+        [b'^' | b'~', partial @ ..] | partial => partial,
+    };
+    let mut numbers = partial.split(|byte| *byte == b'.');
+    numbers.by_ref().take(3).all(|number| plain_number(number).is_some()) && numbers.next().is_none()
+}
+
+/// The three numbers of a version as most are: of at most 15 digits and without leading zeros, a pre-release and a build.
+#[inline]
+pub(crate) fn plain_release(text: &str) -> Option<[u64; 3]> {
+    let mut numbers = text.as_bytes().split(|byte| *byte == b'.').map(plain_number);
+    let release = [numbers.next()??, numbers.next()??, numbers.next()??];
+    numbers.next().is_none().then_some(release)
+}
+
+#[inline]
+fn plain_number(digits: &[u8]) -> Option<u64> {
+    let is_plain = matches!(digits, [b'0'] | [b'1'..=b'9', ..]) && digits.len() <= 15;
+    let digits = digits.iter().map(|digit| digit.is_ascii_digit().then(|| u64::from(digit - b'0')));
+    is_plain.then(|| digits.into_iter().try_fold(0, |number, digit| Some(10 * number + digit?)))?
+}
+
 /// The parts of a package with a requirement: a name, an optional requirement behind `@`, and a path behind `/`.
 pub(crate) struct PackageParts<'a> {
     pub(crate) name: &'a str,
@@ -378,5 +404,47 @@ fn short_form(start: &Version, end: &Version) -> Option<Short> {
         Some(Short::Caret)
     } else {
         None
+    }
+}
+
+#[cfg(test)]
+mod tests {
+    use super::{is_plain_range, plain_release};
+    use crate::calls::{asked_is_tag, asked_version_numbers, Grammar};
+
+    #[test]
+    fn the_library_takes_what_is_plain() {
+        let starts = ["", "^", "~", "=", "^^", "v"];
+        let numbers = ["0", "1", "10", "01", "999999999999999", "1000000000000000", "18446744073709551616", "x", "", "1-a"];
+        let (mut ranges, mut releases) = (0, 0);
+        for start in starts {
+            for count in 0..5u32 {
+                for choice in 0..10usize.pow(count) {
+                    let parts: Vec<&str> = (0..count).map(|n| numbers[choice / 10usize.pow(n) % 10]).collect();
+                    let text = format!("{start}{}", parts.join("."));
+                    if is_plain_range(&text) {
+                        ranges += 1;
+                        for grammar in [Grammar::Npm, Grammar::Normalized, Grammar::Strict] {
+                            assert_eq!(asked_is_tag(grammar, &text), Ok(false), "{text}");
+                        }
+                    }
+                    if let Some(release) = plain_release(&text) {
+                        releases += 1;
+                        assert_eq!(asked_version_numbers(&text), Some((release, true)), "{text}");
+                    }
+                }
+            }
+        }
+        assert_eq!((ranges, releases), (3 * (4 + 16 + 64), 64));
+    }
+
+    #[test]
+    fn most_ranges_are_plain() {
+        for text in ["1", "0.0.0", "^1.2.3", "~0.10", "^999999999999999"] {
+            assert!(is_plain_range(text), "{text}");
+        }
+        for text in ["", "^", "1.", ".1", "1.2.3.4", "01", "^1.02", "1.x", "1.2.3-a", "1.2.3+b", " 1", "1 ", "1 2", ">=1", "*", "latest"] {
+            assert!(!is_plain_range(text), "{text}");
+        }
     }
 }
