@@ -1,6 +1,7 @@
 // What the package is made of: it imports nothing but itself, so that it runs in every host, and both kinds of modules have one API.
 
 import assert from 'node:assert/strict';
+import { execFileSync } from 'node:child_process';
 import { existsSync, readFileSync, readdirSync, statSync } from 'node:fs';
 import { join } from 'node:path';
 import { createRequire } from 'node:module';
@@ -60,6 +61,13 @@ test('each exported declaration has a comment', () => {
     const bare = lines.filter((line, at) => /^export |^ {2}(readonly |get |[a-z]+[(:?])/.test(line) && !/^export (default|\{)/.test(line)
       && !/\*\/$/.test(lines[at - 1]) && !/^ {2}readonly (start|end|expected|error)\?|^ {2}readonly expected:/.test(line));
     assert.deepEqual(bare, [], name);
+  }
+});
+
+test('an import compiles nothing, which the first call does', () => {
+  const source = 'WebAssembly.Module = undefined; await import(process.argv[1])';
+  for (const name of ['index.js', 'compat.js']) {
+    execFileSync(process.execPath, ['--input-type=module', '-e', source, new URL(name, folder).href]);
   }
 });
 
