@@ -73,12 +73,9 @@ pub(crate) fn text_or_message(call: impl FnMut(&mut [u8], &mut usize) -> i32) ->
 /// Whether a range is a tag, or the error message.
 #[inline]
 pub(crate) fn is_tag(grammar: Grammar, text: &str) -> Result<bool, String> {
-    if own::is_plain_range(text) { Ok(false) } else { asked_is_tag(grammar, text) }
-}
-
-/// The same by the library.
-#[inline]
-pub(crate) fn asked_is_tag(grammar: Grammar, text: &str) -> Result<bool, String> {
+    if own::is_plain_range(text) {
+        return Ok(false);
+    }
     match semver_is_tag(grammar as u32, text, &mut [], &mut 0) {
         INVALID_RANGE => Err(message(grammar, text)),
         code => Ok(answer(code) == Some(true)),
@@ -94,12 +91,9 @@ pub(crate) fn message(grammar: Grammar, text: &str) -> String {
 /// The three numbers of a version, and whether it has neither a pre-release nor a build. None for a text that isn't a version.
 #[inline]
 pub(crate) fn version_numbers(text: &str) -> Option<([u64; 3], bool)> {
-    own::plain_release(text).map_or_else(|| asked_version_numbers(text), |release| Some((release, true)))
-}
-
-/// The same by the library.
-#[inline]
-pub(crate) fn asked_version_numbers(text: &str) -> Option<([u64; 3], bool)> {
+    if let Some(release) = own::plain_release(text) {
+        return Some((release, true));
+    }
     let mut numbers = [0; 3];
     match semver_version_numbers(text, &mut numbers, &mut 0) {
         code @ (NO | YES) => Some((numbers, code == YES)),

@@ -282,6 +282,30 @@ fn versions_are_those_of_the_library() {
     }
 }
 
+// The crate takes plain versions and ranges itself. The proved calls must answer the same.
+#[test]
+fn plain_texts_are_those_of_the_library() {
+    let numbers = ["0", "1", "10", "01", "999999999999999", "1000000000000000", "18446744073709551616", "x", "", "1-a"];
+    for (start, count) in ["", "^", "~", "=", "^^", "v"].into_iter().flat_map(|start| (0..5).map(move |count| (start, count))) {
+        for choice in 0..10usize.pow(count) {
+            let parts: Vec<&str> = (0..count).map(|n| numbers[choice / 10usize.pow(n) % 10]).collect();
+            let text = format!("{start}{}", parts.join("."));
+            let parsed = [
+                (Grammar::Npm, VersionReq::parse_from_npm(&text).ok()),
+                (Grammar::Normalized, VersionReq::parse_from_normalized(&text).ok()),
+                (Grammar::Strict, VersionReq::parse_from_specifier(&text).ok()),
+            ];
+            for (grammar, req) in parsed {
+                let is_tag = lists::best(grammar, &text, [""; 0], PreRelease::Restricted).map(|best| best == Best::Tag);
+                assert_eq!(req.map(|req| req.tag().is_some()), is_tag.ok(), "{text}");
+            }
+            let json = json::name_with_version(&format!("a@{text}"));
+            let version = Version::parse_standard(&text).ok();
+            assert_eq!(version.map(|it| format!(r#"{{"name":"a","scope":null,"version":"{it}"}}"#)), json.ok(), "{text}");
+        }
+    }
+}
+
 /// A range from one version to a higher one, of one version, or without an end, another one for each seed. Versions have no build, which
 /// comparators leave out.
 fn a_range(next: &mut impl FnMut(usize) -> usize) -> VersionRange {
