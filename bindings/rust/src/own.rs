@@ -20,23 +20,29 @@ pub(crate) fn is_plain_range(text: &str) -> bool {
     let partial = match text.as_bytes() {
         [b'^' | b'~', partial @ ..] | partial => partial,
     };
-    let mut numbers = partial.split(|byte| *byte == b'.');
-    numbers.by_ref().take(3).all(|number| plain_number(number).is_some()) && numbers.next().is_none()
+    plain_numbers(partial).is_some()
 }
 
 /// The three numbers of a version as most are: of at most 15 digits and without leading zeros, a pre-release and a build.
 #[inline]
 pub(crate) fn plain_release(text: &str) -> Option<[u64; 3]> {
-    let mut numbers = text.as_bytes().split(|byte| *byte == b'.').map(plain_number);
-    let release = [numbers.next()??, numbers.next()??, numbers.next()??];
-    numbers.next().is_none().then_some(release)
+    plain_numbers(text.as_bytes()).filter(|(_, count)| *count == 3).map(|(numbers, _)| numbers)
 }
 
+/// One to three such numbers with dots between them, and how many there are.
 #[inline]
-fn plain_number(digits: &[u8]) -> Option<u64> {
-    let is_plain = matches!(digits, [b'0'] | [b'1'..=b'9', ..]) && digits.len() <= 15;
-    let digits = digits.iter().map(|digit| digit.is_ascii_digit().then(|| u64::from(digit - b'0')));
-    is_plain.then(|| digits.into_iter().try_fold(0, |number, digit| Some(10 * number + digit?)))?
+fn plain_numbers(text: &[u8]) -> Option<([u64; 3], usize)> {
+    let (mut numbers, mut index, mut start) = ([0; 3], 0, 0);
+    for (at, byte) in text.iter().enumerate() {
+        match byte {
+            b'0'..=b'9' if at == start || at - start < 15 && text[start] != b'0' => {
+                numbers[index] = 10 * numbers[index] + u64::from(byte - b'0');
+            }
+            b'.' if at > start && index < 2 => (index, start) = (index + 1, at + 1),
+            _ => return None,
+        }
+    }
+    (start < text.len()).then_some((numbers, index + 1))
 }
 
 /// The parts of a package with a requirement: a name, an optional requirement behind `@`, and a path behind `/`.
