@@ -149,7 +149,9 @@ fn of_alias(alias: &str) -> Source<'_> {
             let (name, range) = alias.split_at_checked(end).unwrap_or((alias, ""));
             (name, range.strip_prefix('@').unwrap_or(range))
         }
-        None if alias.is_empty() || is_package_name(alias) => return Source::Elsewhere,
+        None if alias.is_empty() || is_package_name(alias) && !is_archive(alias) => {
+            return Source::Elsewhere;
+        }
         // Without a name this is a range.
         None => (alias, alias),
     };
@@ -164,6 +166,70 @@ fn of_alias(alias: &str) -> Source<'_> {
     } else {
         Source::Refused("npm refuses it: no package has such a name")
     }
+}
+
+// What the place of a repository begins with.
+const REPOSITORIES: [&str; 13] = [
+    "git:",
+    "git+ssh:",
+    "git+http:",
+    "git+https:",
+    "git+file:",
+    "git+rsync:",
+    "git+ftp:",
+    "github:",
+    "gitlab:",
+    "bitbucket:",
+    "gist:",
+    "sourcehut:",
+    "ssh:",
+];
+
+// Whether a text without its `#` is the place of a repository, or its name on GitHub.
+fn is_repository(text: &str) -> bool {
+    let is_name = text.contains('/') && !has_protocol(text) && !looks_like_range(text);
+    let is_place = |front: &&str| behind_protocol(text, *front).is_some();
+    is_name || REPOSITORIES.iter().any(is_place)
+}
+
+// What stands behind the `#` of a repository: parts with `::` between neighbours, of which one may name a commit or a range, and one a path.
+fn of_repository(behind: &str) -> Source<'_> {
+    let mut range = None;
+    let (mut has_version, mut has_path) = (false, false);
+    for part in behind.split("::") {
+        match part.split_once(':') {
+            None if part.is_empty() => (),
+            Some(("path", _)) if has_path => {
+                return Source::Refused("npm refuses it: a repository takes one path");
+            }
+            Some(("path", _)) => has_path = true,
+            Some(("semver", _)) | None if has_version => {
+                return Source::Refused(
+                    "npm refuses it: a repository takes one commit or one range",
+                );
+            }
+            Some(("semver", text)) => (has_version, range) = (true, Some(text)),
+            None => has_version = true,
+            Some(_) => (),
+        }
+    }
+    match range {
+        // An escape stands for another character, and npm drops what follows a second colon.
+        Some(range) if behind.ends_with(range) && !range.contains(['%', ':'].as_slice()) => {
+            Source::Registry(range)
+        }
+        _ => Source::Elsewhere,
+    }
+}
+
+// Whether a URL of the web has no host, or whitespace in it.
+fn lacks_host(text: &str) -> bool {
+    let Some(url) = behind_protocol(text, "http:").or(behind_protocol(text, "https:")) else {
+        return false;
+    };
+    let path = url.trim_start_matches('/');
+    let host = path.split(['/', '?', '#'].as_slice()).next().unwrap_or("");
+    host.is_empty() || host.contains(|c: char| c.is_whitespace())
 }
 
 /// Where a dependency comes from, by its text. The protocols of other package managers are known as well.
@@ -186,8 +252,13 @@ pub fn source_of(text: &str) -> Source<'_> {
             _ => Source::Registry(range),
         };
     }
-    if let Some((_, range)) = text.rsplit_once("#semver:") {
-        return Source::Registry(range);
+    if lacks_host(text) {
+        return Source::Refused("npm refuses it: the URL has no valid host");
+    }
+    if let Some((place, behind)) = text.split_once('#')
+        && (is_repository(place) || behind.starts_with("semver:"))
+    {
+        return of_repository(behind);
     }
     if is_protocol(text) {
         return Source::Elsewhere;
