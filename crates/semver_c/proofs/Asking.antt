@@ -1,5 +1,5 @@
 -- The results of calls, from those of questions about texts.
-use Rattle.std.proofs.Common.{◌≡◌, ◌∙◌, arith, ℕ, List, Ok, Err, Result, refl, sym, ap, subst, inl, inr, ◌⊎◌, ◌<◌, IfOk, IsErrAnd, IsUtf8, MatchResult}
+use Rattle.std.proofs.Common.{◌≡◌, ◌∙◌, arith, ℕ, List, Ok, Err, Result, refl, sym, ap, subst, inl, inr, ◌⊎◌, IfOk, IsErrAnd, IsUtf8, MatchResult}
 use Rattle.std.proofs.lemmas.Result.{err_from_is_err_and}
 use Rattle.std.specs.declared.alloc.AllocError.{AllocError}
 use Rattle.semver_req.specs.Viable.{IsErrorPlace, IsVersionText}
