@@ -13,7 +13,7 @@ use crate::rules::{Levels, Rule};
 use crate::walking::{Group, Manifests, find, path_in_repository, read_file};
 use answers::asking::{Answer, Problem};
 use answers::explained::{Explanation, Meaning, Piece, explain};
-use answers::questions::common_version;
+use answers::questions::{common_version, displayed};
 use clap::ArgMatches;
 use deno_semver::PreRelease;
 use package_answers::errors::PackageErrors;
@@ -67,6 +67,9 @@ fn refuse<O: Write, E: Write>(
     report.add(console, entry, Finding::new(Cause::Refused, message))
 }
 
+// What an alternative without comparators at the end of a range is.
+const EMPTY_AT_END: &str = "node-semver reads the empty part behind the last `||` as every version";
+
 // Reports what npm makes of a dependency in another way than this grammar.
 fn compare_with_npm<O: Write, E: Write>(
     console: &mut Console<O, E>,
@@ -91,7 +94,12 @@ fn compare_with_npm<O: Write, E: Write>(
             report_left_out(console, report, entry, range, read.dropped.is_some())?;
         }
         Some(dropped) => {
-            let message = format!(in console.alloc; "npm leaves out `{dropped}`: `,` isn't read");
+            let why = if dropped.contains(',') {
+                ": `,` isn't read"
+            } else {
+                ""
+            };
+            let message = format!(in console.alloc; "npm leaves out `{dropped}`{why}");
             report.tell(console, entry, Rule::DroppedAlternative, message)?;
         }
         None => (),
@@ -170,8 +178,7 @@ fn warn<O: Write, E: Write>(
     }
     // node-semver, and so npm, reads these in another way.
     if range.trim_end().ends_with("||") {
-        let message = "node-semver reads what follows the last `||` as every version";
-        report.add(console, entry, Finding::by(Rule::NpmDiffers, message))?;
+        report.add(console, entry, Finding::by(Rule::NpmDiffers, EMPTY_AT_END))?;
     }
     if entry.kind != Kind::Dependency && (range.contains(',') || range.contains("&&")) {
         let message = "node-semver rejects `,` and `&&`: write a space";
@@ -256,16 +263,25 @@ fn report_invalid<O: Write, E: Write>(
     }
 }
 
-// Checks a tag.
+// Checks a tag, which the text is without an empty alternative at its end.
 fn check_tag<O: Write, E: Write>(
     console: &mut Console<O, E>,
     report: &mut Report<'_>,
     entry: &Entry,
+    text: &str,
     tag: &str,
 ) -> Result<(), Stop> {
-    if entry.kind == Kind::Dependency && npm::read_range(tag).reading == Reading::Refused {
-        let message = "npm refuses the tag: it has a character that URLs don't";
-        return report.add(console, entry, Finding::new(Cause::Refused, message));
+    if entry.kind == Kind::Dependency {
+        match npm::read_range(text).reading {
+            Reading::Refused | Reading::TooLarge => {
+                let message = "npm refuses the tag: it has a character that URLs don't";
+                return report.add(console, entry, Finding::new(Cause::Refused, message));
+            }
+            Reading::Range if text.trim_end().ends_with("||") => {
+                return report.add(console, entry, Finding::by(Rule::NpmDiffers, EMPTY_AT_END));
+            }
+            Reading::Range | Reading::Tag => (),
+        }
     }
     if entry.kind == Kind::Engine {
         let message = "a tag, which no version satisfies";
@@ -286,7 +302,7 @@ fn check_range<O: Write, E: Write>(
     range: &str,
 ) -> Result<(), Stop> {
     match explain(console.alloc, flavour, PreRelease::Restricted, range) {
-        Ok(Explanation::Tag(tag)) => check_tag(console, report, entry, tag.as_str()),
+        Ok(Explanation::Tag(tag)) => check_tag(console, report, entry, range, tag.as_str()),
         Ok(Explanation::Ranges { pieces, normal }) => {
             warn(
                 console,
@@ -537,14 +553,24 @@ fn check_version<O: Write, E: Write>(
     report.add(console, entry, finding)
 }
 
+// Whether SemVer lets a version be written so.
+fn is_strict_version(alloc: Global, text: &str) -> Result<bool, AllocError> {
+    match displayed(alloc, text) {
+        Ok(canonical) => Ok(canonical.as_str() == text && number_behind_zero(text).is_none()),
+        Err(Problem::Invalid(_)) => Ok(false),
+        Err(Problem::OutOfMemory) => Err(AllocError),
+    }
+}
+
 // Checks a package manager with its version.
 fn check_manager<O: Write, E: Write>(
     console: &mut Console<O, E>,
     report: &mut Report<'_>,
     entry: &Entry,
 ) -> Result<(), Stop> {
-    let (_, version) = entry.text.as_str().split_once('@').unwrap_or(("", ""));
-    if npm::is_version(version) || version.contains("://") {
+    let (name, version) = entry.text.as_str().split_once('@').unwrap_or(("", ""));
+    let is_name = is_package_name(name) && !name.starts_with('@');
+    if is_name && (version.contains("://") || is_strict_version(console.alloc, version)?) {
         return Ok(());
     }
     let message = "expected a name and an exact version, such as \"npm@1.2.3\"";
@@ -604,6 +630,11 @@ fn check_sections<O: Write, E: Write>(
     Ok(())
 }
 
+// Whether the entry says that npm is the package manager.
+fn is_npm(entry: &Entry) -> bool {
+    entry.kind == Kind::Manager && entry.text.as_str().starts_with("npm@")
+}
+
 // What entries say of one another.
 #[derive(Drop)]
 struct Names<'e> {
@@ -614,6 +645,8 @@ struct Names<'e> {
     overrides: Overrides<'e>,
     /// Whether the workspaces have a list of patterns.
     has_packages: bool,
+    /// Whether the file says that npm is its package manager.
+    is_of_npm: bool,
 }
 
 // What is checked: a file, and what holds for it.
@@ -635,6 +668,13 @@ struct Checked<'f> {
     settings: &'f [&'f str],
 }
 
+impl Checked<'_> {
+    // Whether npm reads the file.
+    fn is_of_npm(&self) -> bool {
+        !self.path.ends_with(".yaml")
+    }
+}
+
 // Checks what an entry of dependencies says with others, and with what is known of the workspace.
 fn check_relations<'e, O: Write, E: Write>(
     console: &mut Console<O, E>,
@@ -645,8 +685,12 @@ fn check_relations<'e, O: Write, E: Write>(
 ) -> Result<(), Stop> {
     match entry.section {
         "dependencies" | "devDependencies" | "optionalDependencies" | "peerDependencies" => {
-            if !entry.name.is_empty() && !is_package_name(entry.name.as_str()) {
+            if !is_package_name(entry.name.as_str()) {
                 let message = "npm refuses it: no package has such a name";
+                report.add(console, entry, Finding::new(Cause::Refused, message))?;
+            }
+            if names.is_of_npm && npm::is_foreign(entry.text.as_str()) {
+                let message = "npm doesn't know this protocol, and `packageManager` is npm";
                 report.add(console, entry, Finding::new(Cause::Refused, message))?;
             }
             if let Some(message) = file.known.refusal(console.alloc, entry)? {
@@ -654,7 +698,7 @@ fn check_relations<'e, O: Write, E: Write>(
                 report.add(console, entry, finding)?;
             }
         }
-        "overrides" | "pnpm" if file.is_root && !file.path.ends_with(".yaml") => {
+        "overrides" | "pnpm" if file.is_root && file.is_of_npm() => {
             check_reference(console, report, entry, &names.overrides)?;
         }
         _ => (),
@@ -675,7 +719,10 @@ fn check_entry<'e, O: Write, E: Write>(
     file: Checked<'_>,
     entry: &'e Entry,
 ) -> Result<(), Stop> {
+    let is_ignored = entry.section == "overrides" && !file.is_root && file.is_of_npm();
     match entry.kind {
+        // npm takes no overrides from a workspace.
+        Kind::Dependency | Kind::Override(_) if is_ignored => Ok(()),
         Kind::Dependency => {
             check_dependency(console, report, entry)?;
             check_relations(console, report, names, file, entry)
@@ -701,6 +748,9 @@ fn check_entry<'e, O: Write, E: Write>(
             report.add(console, entry, finding)
         }
         Kind::Odd(message) => report.add(console, entry, Finding::by(Rule::OddEngine, message)),
+        Kind::OddSection(message) => {
+            report.add(console, entry, Finding::by(Rule::OddSection, message))
+        }
         Kind::Mistake(message) => report.add(console, entry, Finding::new(Cause::Refused, message)),
         Kind::Workspace if file.is_own && file.unmatched.contains(&entry.text) => {
             let message = "no folder with a manifest matches it";
@@ -717,10 +767,14 @@ fn check_entry<'e, O: Write, E: Write>(
             }
             Ok(())
         }
-        Kind::Workspaces if !names.has_packages => {
+        Kind::Workspaces if !names.has_packages && file.is_root => {
             let message = "npm refuses it: workspaces config expects an Array";
             report.add(console, entry, Finding::new(Cause::Refused, message))
         }
+        Kind::Name if !file.is_own => match file.known.refusal_of_name(entry.text.as_str()) {
+            Some(message) => report.add(console, entry, Finding::new(Cause::Refused, message)),
+            None => Ok(()),
+        },
         Kind::Workspace
         | Kind::Workspaces
         | Kind::Packages
@@ -787,6 +841,7 @@ fn check_entries<O: Write, E: Write>(
         peers: HashSet::new(console.alloc),
         overrides: Overrides::of(console.alloc, entries)?,
         has_packages: entries.iter().any(|entry| entry.kind == Kind::Packages),
+        is_of_npm: entries.iter().any(is_npm),
     };
     for entry in entries
         .iter()

@@ -44,13 +44,11 @@ fn bound<W: fmt::Write>(
     write!(f, "{operator}{equal}{}", bound.version)
 }
 
-// The version at which the range both starts and ends.
-fn only_version(range: &VersionRange) -> Option<&Version> {
+// Whether the range starts and ends at the same version.
+fn has_one_version(range: &VersionRange) -> bool {
     match (&range.start, &range.end) {
-        (RangeBound::Version(start), RangeBound::Version(end)) if start.version == end.version => {
-            Some(&start.version)
-        }
-        _ => None,
+        (RangeBound::Version(start), RangeBound::Version(end)) => start.version == end.version,
+        _ => false,
     }
 }
 
@@ -117,8 +115,8 @@ impl fmt::Display for Explained<'_> {
         let Some(lowest) = &matches.lowest else {
             return f.write_str("no version matches");
         };
-        if let Some(only) = only_version(&matches.range) {
-            return write!(f, "only {bounds}{only}{end}");
+        if has_one_version(&matches.range) {
+            return write!(f, "only {bounds}{lowest}{end}");
         }
         let pre_releases = PreReleases {
             matches,

@@ -1,4 +1,4 @@
-//! What the files of a workspace of pnpm say of one another: its catalogs, and the versions of its packages.
+//! What the files of a workspace say of one another: the names and versions of its packages, and pnpm's catalogs.
 
 use crate::catalogs::{Catalogs, catalog_name, resolved, shelve};
 use crate::walking::Group;
@@ -7,7 +7,7 @@ use answers::questions::matches;
 use deno_semver::PreRelease;
 use semver_req::common::values::Flavour;
 use std::alloc::{AllocError, Global};
-use std::collections::BTreeMap;
+use std::collections::{BTreeMap, HashSet};
 use std::fs;
 use std::io::ErrorKind;
 use std::rt::Files;
@@ -15,19 +15,31 @@ use terminal::console::Stop;
 use terminal::entry::Entry;
 use terminal::hints::behind_protocol;
 use terminal::manifest::entries;
-use terminal::npm::{Source, renamed, source_of};
+use terminal::npm::{Source, is_package_name, renamed, source_of};
 use terminal::sections::Kind;
 
 const WORKSPACE: &str = "pnpm-workspace.yaml";
 
+/// Whose workspace the files are.
+#[derive(Clone, Copy, PartialEq, Eq)]
+enum Workspace {
+    None,
+    /// One of package.json, which npm, yarn and bun read.
+    Package,
+    /// One of pnpm-workspace.yaml.
+    Pnpm,
+}
+
 /// What is known of a workspace.
 #[derive(Drop)]
 pub struct Known {
-    /// Whether a pnpm-workspace.yaml was read.
-    is_of_pnpm: bool,
+    workspace: Workspace,
     catalogs: Catalogs,
     /// The versions of packages, by name.
     versions: BTreeMap<String, String>,
+    /// The names of workspaces, and of those which several have.
+    names: HashSet<String>,
+    repeated: HashSet<String>,
 }
 
 // The text of the first entry of a kind, if there is one.
@@ -49,10 +61,21 @@ impl Known {
     /// Nothing so far.
     pub fn new(alloc: Global) -> Known {
         Known {
-            is_of_pnpm: false,
+            workspace: Workspace::None,
             catalogs: BTreeMap::new(alloc),
             versions: BTreeMap::new(alloc),
+            names: HashSet::new(alloc),
+            repeated: HashSet::new(alloc),
         }
+    }
+
+    // Learns the name of a workspace.
+    fn learn_name(&mut self, alloc: Global, name: &str) -> Result<(), AllocError> {
+        if self.names.insert(String::from_str(alloc, name)?)? {
+            return Ok(());
+        }
+        let _ = self.repeated.insert(String::from_str(alloc, name)?)?;
+        Ok(())
     }
 
     // Learns what a file says.
@@ -61,7 +84,11 @@ impl Known {
             .iter()
             .any(|entry| matches!(entry.kind, Kind::Mistake(_)));
         if path.ends_with(WORKSPACE) {
-            self.is_of_pnpm = !is_mistaken;
+            self.workspace = if is_mistaken {
+                Workspace::None
+            } else {
+                Workspace::Pnpm
+            };
             for entry in entries {
                 shelve(alloc, &mut self.catalogs, entry)?;
             }
@@ -75,13 +102,30 @@ impl Known {
         Ok(())
     }
 
-    /// Why pnpm refuses the text of a dependency, if what is known says so.
+    /// Why npm refuses the name of a workspace, if it does.
+    pub fn refusal_of_name(&self, name: &str) -> Option<&'static str> {
+        if self.workspace != Workspace::Package {
+            None
+        } else if !is_package_name(name) {
+            Some("npm refuses it: no package has such a name")
+        } else if self.repeated.contains(name) {
+            Some("npm refuses it: another workspace has the same name")
+        } else {
+            None
+        }
+    }
+
+    /// Why no package manager takes the text of a dependency, if what is known says so.
     pub fn refusal(&self, alloc: Global, entry: &Entry) -> Result<Option<String>, AllocError> {
         let text = entry.text.as_str();
-        if !self.is_of_pnpm {
-            return Ok(None);
-        }
-        if let Some(catalog) = text.strip_prefix("catalog:") {
+        let who = match self.workspace {
+            Workspace::None => return Ok(None),
+            Workspace::Package => "no package manager takes it",
+            Workspace::Pnpm => "pnpm refuses it",
+        };
+        if let Some(catalog) = text.strip_prefix("catalog:")
+            && self.workspace == Workspace::Pnpm
+        {
             if resolved(&self.catalogs, entry).is_some() {
                 return Ok(None);
             }
@@ -108,33 +152,64 @@ impl Known {
         if is_match(alloc, range, version)? {
             return Ok(None);
         }
-        let message = format!(in alloc;
-            "pnpm refuses it: its version in the workspace is {version}"
-        )?;
+        let message = format!(in alloc; "{who}: its version in the workspace is {version}")?;
         Ok(Some(message))
     }
 }
 
-/// What the manifests of a group say of one another, and those further up, if pnpm's are among them.
+// The entries of a file; none if it can't be read.
+fn entries_of<R: Files + AllocGlobal>(rt: &R, path: &str) -> Result<Vec<Entry>, Stop> {
+    match fs::read_to_string(rt, path) {
+        Ok(text) => Ok(entries(rt.alloc(), path, text.as_str())?),
+        Err(error) if error.kind() == ErrorKind::OutOfMemory => Err(Stop::OutOfMemory),
+        Err(_) => Ok(Vec::new(rt.alloc())),
+    }
+}
+
+// Whose workspace a group is, by the manifests of its folder and of those above.
+fn workspace_of<R: Files + AllocGlobal>(rt: &R, group: &Group) -> Result<Workspace, Stop> {
+    let mut found = Workspace::None;
+    let own = group.paths.iter().take(group.own);
+    for path in own.chain(group.above.iter()) {
+        let path = path.as_str();
+        if path.ends_with(WORKSPACE) {
+            return Ok(Workspace::Pnpm);
+        }
+        if path.ends_with("package.json") && entries_of(rt, path)?.iter().any(is_pattern) {
+            found = Workspace::Package;
+        }
+    }
+    Ok(found)
+}
+
+// Whether the entry is a pattern of workspaces.
+fn is_pattern(entry: &Entry) -> bool {
+    entry.kind == Kind::Workspace && entry.section == "workspaces"
+}
+
+/// What the manifests of a group and those further up say of one another, if they are of a workspace.
 pub fn known_of<R: Files + AllocGlobal>(rt: &R, group: &Group) -> Result<Known, Stop> {
     let alloc = rt.alloc();
     let mut known = Known::new(alloc);
-    let own = group.paths.iter().take(group.own);
-    if !own
-        .chain(group.above.iter())
-        .any(|path| path.as_str().ends_with(WORKSPACE))
-    {
+    known.workspace = workspace_of(rt, group)?;
+    if known.workspace == Workspace::None {
         return Ok(known);
     }
-    for path in group.above.iter().chain(group.paths.iter()) {
-        let path = path.as_str();
-        match fs::read_to_string(rt, path) {
-            Ok(text) => {
-                let entries = entries(alloc, path, text.as_str())?;
-                known.learn(alloc, path, entries.as_slice())?;
-            }
-            Err(error) if error.kind() == ErrorKind::OutOfMemory => return Err(Stop::OutOfMemory),
-            Err(_) => (),
+    for path in group.above.iter() {
+        known.learn(
+            alloc,
+            path.as_str(),
+            entries_of(rt, path.as_str())?.as_slice(),
+        )?;
+    }
+    for (place, path) in group.paths.iter().enumerate() {
+        let entries = entries_of(rt, path.as_str())?;
+        known.learn(alloc, path.as_str(), entries.as_slice())?;
+        if let Some(name) = text_of(entries.as_slice(), Kind::Name)
+            && place >= group.own
+            && path.as_str().ends_with("package.json")
+        {
+            known.learn_name(alloc, name)?;
         }
     }
     Ok(known)

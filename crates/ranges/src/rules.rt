@@ -34,6 +34,7 @@ pub enum Rule {
     NpmDiffers,
     OddEngine,
     OddPath,
+    OddSection,
     OddTag,
     PreReleaseBound,
     UnmatchedWorkspace,
@@ -49,7 +50,7 @@ pub struct About {
     pub help: &'static str,
 }
 
-const COUNT: usize = 16;
+const COUNT: usize = 17;
 
 /// All rules, by name.
 pub const RULES: [About; COUNT] = [
@@ -143,6 +144,13 @@ pub const RULES: [About; COUNT] = [
         level: Level::Warning,
         finds: "npm takes a text with a `/` that begins as a range does for a folder, or for a repository of GitHub.",
         help: "Leave the `/` out if a range is meant, and begin the path of a folder with `./`.",
+    },
+    About {
+        rule: Rule::OddSection,
+        name: "odd-section",
+        level: Level::Warning,
+        finds: "A section of package.json isn't an object, or an override isn't a string, and npm passes over it.",
+        help: "Write an object of names and ranges, as in `{\"react\": \"^18\"}`.",
     },
     About {
         rule: Rule::OddTag,

@@ -130,7 +130,7 @@ const JSON: Argument = Argument {
 const QUIET: Argument = Argument {
     name: "quiet",
     form: Form::Flag(Some('q'), &["json"]),
-    help: "Print no result, only errors",
+    help: "Print no result: the status says it",
 };
 
 const GRAMMAR: Argument = Argument {
@@ -405,7 +405,7 @@ Examples:
   ranges check --exclude fixtures --files .
 
 Rules: any-zero, contained-alternative, disjoint-sections, dropped-alternative, duplicate-key, empty-alternative,
-ignored-comparator, no-match, npm-differs, odd-engine, odd-path, odd-tag, unmatched-workspace, and off if nothing
+ignored-comparator, no-match, npm-differs, odd-engine, odd-path, odd-section, odd-tag, unmatched-workspace, and off if nothing
 sets them, meta-without-range, not-canonical, pre-release-bound. A rule at the level warn prints a warning.
 
 Exit status: 0 no error; 1 an error, or with --strict a warning, or --dry-run prints a change; 2 unknown arguments;

@@ -32,8 +32,16 @@ fn has_patterns(place: Place) -> bool {
     place.has_array || matches!(place.text, Some((Kind::Workspace, _)))
 }
 
-// What is said of a value, where something else belongs.
-fn misplaced(shape: Shape, place: Place, is_engines: bool, is_of_workspaces: bool) -> Option<Kind> {
+// What is said of a value, where something else belongs. npm passes over what it doesn't expect in some sections.
+fn misplaced(
+    shape: Shape,
+    place: Place,
+    section: &str,
+    is_at_top: bool,
+    is_of_npm: bool,
+) -> Option<Kind> {
+    let is_engines = is_at_top && section == "engines";
+    let is_of_workspaces = is_of_npm && section == "workspaces";
     let message = match place.text {
         Some((Kind::Engine, _)) if shape == Shape::Null => return None,
         Some((Kind::Engine, _)) => {
@@ -46,12 +54,18 @@ fn misplaced(shape: Shape, place: Place, is_engines: bool, is_of_workspaces: boo
         Some((Kind::Manager, _)) => "expected a string, such as \"npm@1.2.3\"",
         Some((Kind::Level, _)) => "expected a string, such as \"off\"",
         Some((Kind::Workspace, _)) => "expected a string, such as \"packages/*\"",
+        Some((_, "overrides")) if is_of_npm => {
+            return Some(Kind::OddSection("not a string: npm passes over it"));
+        }
         Some(_) => "expected a string, such as \"^1.2\"",
         None if is_engines => {
             return Some(Kind::Odd("not an object: package managers pass over it"));
         }
         None if is_of_workspaces && place.has_array => {
             "npm refuses it: workspaces config expects an Array"
+        }
+        None if place.has_object && is_at_top && is_of_npm => {
+            return Some(Kind::OddSection("not an object: npm passes over it"));
         }
         None if place.has_object => "expected an object",
         None if place.has_array => "expected a list",
@@ -113,6 +127,14 @@ impl Collector {
         } else {
             self.key.as_deref().unwrap_or("")
         };
+        let first = match self.path.first() {
+            Some(first) => first.as_str(),
+            None => last,
+        };
+        if self.format == Format::Package && matches!(first, "imports" | "scopes" | "importMap") {
+            // Node reads these, and Deno only in its own files.
+            return Place::NOWHERE;
+        }
         place_of(self.path.as_slice(), last, self.arrays > 0)
     }
 
@@ -186,13 +208,11 @@ impl Collector {
             Some(first) => first.as_str(),
             None => key,
         };
-        let is_import_map = matches!(first, "imports" | "scopes");
         match self.format {
             // Only npm's own file has npm's workspaces.
             Format::Json | Format::Yaml if first == "workspaces" && has_patterns(place) => false,
             // pnpm passes over a section without a value.
             Format::Yaml => shape != Shape::Null || !self.path.is_empty(),
-            Format::Package if is_import_map => false,
             // npm and Deno take `null` for none.
             _ if self.path.is_empty() && shape == Shape::Null => self.is_workspaces(),
             // The keys of Node's imports.
@@ -265,9 +285,13 @@ impl Collector {
         if is_there || !self.is_strict(place, shape) {
             return Ok(None);
         }
-        let is_engines = self.path.is_empty() && self.key.as_deref() == Some("engines");
-        let is_of_workspaces = self.is_workspaces() || self.first_key() == "workspaces";
-        let kind = match misplaced(shape, place, is_engines, is_of_workspaces) {
+        let is_at_top = self.path.is_empty();
+        let is_of_npm = self.format == Format::Package;
+        let section = match self.key.as_deref() {
+            Some(key) if is_at_top => key,
+            _ => self.first_key(),
+        };
+        let kind = match misplaced(shape, place, section, is_at_top, is_of_npm) {
             Some(_)
                 if shape == Shape::Other && self.format == Format::Yaml && place.text.is_some() => {
                 Kind::Mistake("not a text to YAML: write it in quotes")

@@ -185,11 +185,36 @@ const REPOSITORIES: [&str; 13] = [
     "ssh:",
 ];
 
+// The hosts whose URLs npm takes for repositories.
+const HOSTS: [&str; 5] = [
+    "github.com",
+    "gitlab.com",
+    "bitbucket.org",
+    "gist.github.com",
+    "git.sr.ht",
+];
+
+// What follows the protocol of a URL of the web.
+fn behind_web(text: &str) -> Option<&str> {
+    behind_protocol(text, "https:").or(behind_protocol(text, "http:"))
+}
+
+// The host of a URL, from what follows its protocol.
+fn host_of(url: &str) -> &str {
+    let path = url.trim_start_matches('/');
+    path.split(['/', '?', '#'].as_slice()).next().unwrap_or("")
+}
+
 // Whether a text without its `#` is the place of a repository, or its name on GitHub.
 fn is_repository(text: &str) -> bool {
-    let is_name = text.contains('/') && !has_protocol(text) && !looks_like_range(text);
+    if let Some(url) = behind_web(text) {
+        let host = host_of(url);
+        return HOSTS.contains(&host.strip_prefix("www.").unwrap_or(host));
+    }
+    let names_one = |(_, name): (&str, &str)| !name.is_empty() && !name.contains('/');
+    let is_name = text.split_once('/').is_some_and(names_one) && !has_protocol(text);
     let is_place = |front: &&str| behind_protocol(text, *front).is_some();
-    is_name || REPOSITORIES.iter().any(is_place)
+    is_name && !looks_like_range(text) || REPOSITORIES.iter().any(is_place)
 }
 
 // What stands behind the `#` of a repository: parts with `::` between neighbours, of which one may name a commit or a range, and one a path.
@@ -222,20 +247,34 @@ fn of_repository(behind: &str) -> Source<'_> {
     }
 }
 
-// Whether a URL of the web has no host, or whitespace in it.
+// Whether a text is a URL of the web without a host, or with whitespace in it.
 fn lacks_host(text: &str) -> bool {
-    let Some(url) = behind_protocol(text, "http:").or(behind_protocol(text, "https:")) else {
-        return false;
+    let url = text.strip_prefix("git+").unwrap_or(text);
+    let is_none = |host: &str| host.is_empty() || host.contains(|c: char| c.is_whitespace());
+    behind_web(url).is_some_and(|url| is_none(host_of(url)))
+}
+
+// Whether some `%` isn't followed by two hexadecimal digits.
+fn has_bad_escape(text: &str) -> bool {
+    let is_digit = |c: Option<char>| c.is_some_and(|c| c.is_ascii_hexdigit());
+    let is_bad = |behind: &str| {
+        let mut chars = behind.chars();
+        !is_digit(chars.next()) || !is_digit(chars.next())
     };
-    let path = url.trim_start_matches('/');
-    let host = path.split(['/', '?', '#'].as_slice()).next().unwrap_or("");
-    host.is_empty() || host.contains(|c: char| c.is_whitespace())
+    text.split('%').skip(1).any(is_bad)
 }
 
 /// Where a dependency comes from, by its text. The protocols of other package managers are known as well.
 pub fn source_of(text: &str) -> Source<'_> {
+    if (is_path(text) || behind_protocol(text, "file:").is_some()) && has_bad_escape(text) {
+        return Source::Refused("npm refuses it: two hexadecimal digits follow a `%`");
+    }
     if is_path(text) {
-        return Source::Elsewhere;
+        let is_number = |c: char| c.is_ascii_digit();
+        return match text.strip_prefix('.') {
+            Some(rest) if rest.starts_with(is_number) => Source::Odd("npm reads it as a folder"),
+            _ => Source::Elsewhere,
+        };
     }
     if let Some(alias) = behind_protocol(text, "npm:") {
         return of_alias(alias);
@@ -256,7 +295,7 @@ pub fn source_of(text: &str) -> Source<'_> {
         return Source::Refused("npm refuses it: the URL has no valid host");
     }
     if let Some((place, behind)) = text.split_once('#')
-        && (is_repository(place) || behind.starts_with("semver:"))
+        && is_repository(place)
     {
         return of_repository(behind);
     }
@@ -277,6 +316,24 @@ pub fn source_of(text: &str) -> Source<'_> {
         }
         Some(_) => Source::Odd("npm reads it as a repository of GitHub"),
     }
+}
+
+// The protocols that npm doesn't know, and other package managers do.
+const FOREIGN: [&str; 7] = [
+    "workspace:",
+    "catalog:",
+    "link:",
+    "portal:",
+    "patch:",
+    "exec:",
+    "jsr:",
+];
+
+/// Whether the text of a dependency has a protocol of other package managers than npm.
+pub fn is_foreign(text: &str) -> bool {
+    FOREIGN
+        .iter()
+        .any(|protocol| behind_protocol(text, protocol).is_some())
 }
 
 // ---- ranges

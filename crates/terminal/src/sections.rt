@@ -35,8 +35,10 @@ pub enum Kind {
     Packages,
     /// A key that stands in its object before.
     Repeated,
-    /// What is accepted, and no range, as the message says.
+    /// What is accepted of engines, and no range, as the message says.
     Odd(&'static str),
+    /// What is accepted in place of a section, or of what it holds, as the message says.
+    OddSection(&'static str),
     /// Something else, as the message says.
     Mistake(&'static str),
 }
@@ -97,6 +99,16 @@ pub struct Place {
     pub is_strict: bool,
 }
 
+impl Place {
+    /// Where nothing holds ranges.
+    pub const NOWHERE: Place = Place {
+        text: None,
+        has_object: false,
+        has_array: false,
+        is_strict: false,
+    };
+}
+
 /// The key of an item of an array.
 pub const ITEM: &str = "[]";
 
@@ -141,12 +153,7 @@ impl Section {
 
 /// What may stand at the place with these keys on the way, if some of them are items of arrays or none.
 pub fn place_of(path: &[String], last: &str, has_items: bool) -> Place {
-    let mut place = Place {
-        text: None,
-        has_object: false,
-        has_array: false,
-        is_strict: false,
-    };
+    let mut place = Place::NOWHERE;
     for section in &SECTIONS {
         section.add(&mut place, path, last, has_items);
     }
