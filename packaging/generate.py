@@ -21,18 +21,18 @@ EXAMPLES = (
     "git tag | ranges best --tags --skip-invalid '^1.2'",
 )
 DESCRIPTION = (
-    "A version is three numbers, as 1.2.3, and perhaps a pre-release and a build, as 1.2.3-rc.1+linux.",
-    "A range says which versions a package accepts, as >=1.2 <2 || 3.x; the grammar of ranges is npm's by default, the normalized one, or the "
-    "strict one of package specifiers. A tag, such as latest, is a name that a registry gives a version.",
-    "By npm's rule a pre-release between the bounds matches only if a bound is itself a pre-release of the same three numbers. With --pre every "
+    "A version is three numbers, such as `1.2.3`. A pre-release and a build may follow, as in `1.2.3-rc.1+linux`.",
+    "A range, such as `>=1.2 <2 || 3.x`, says which versions a package accepts. Its grammar is npm's by default; you can also choose the normalized "
+    "grammar, or the strict grammar of package specifiers. A tag, such as `latest`, is a name that a registry gives a version.",
+    "By npm's rule a pre-release between the bounds matches only if a bound is itself a pre-release of the same three numbers. With `--pre` every "
     "pre-release between the bounds matches.",
-    "The canonical form of a range is the shortest usual text that means the same.",
-    "- stands for standard input: for a file, for its one line, or for all its lines if the command takes a list. After -- no argument is an option, even "
-    "if it begins with a hyphen.",
+    "The canonical form of a range writes each alternative in one usual form, such as `^1.2.0` for `>=1.2 <2`.",
+    "`-` stands for standard input. `check` reads it as a file; a command that takes a list reads every line; any other command reads one line. After "
+    "`--` no argument is an option, even if it begins with a hyphen.",
 )
 ENVIRONMENT = (
-    ("NO_COLOR", "If it is set and not empty, nothing is printed in colour, unless --color=always is given."),
-    ("TERM", "If it is dumb, nothing is printed in colour, unless --color=always is given."),
+    ("NO_COLOR", "If it is set and not empty, `ranges` prints no colours, unless you give `--color=always`."),
+    ("TERM", "If it is `dumb`, `ranges` prints no colours, unless you give `--color=always`."),
 )
 PROGRAM = TOP / "crates/ranges/out/ranges"
 PAGE = TOP / "docs/RANGES.md"
@@ -127,7 +127,8 @@ def statuses():
 
 
 def roff(text):
-    return text.replace("\\", "\\e").replace("-", "\\-").replace("'", "\\(aq").replace("`", "")
+    """The text for roff: what stands between backticks is bold."""
+    return re.sub("`([^`]*)`", r"\\fB\1\\fR", text.replace("\\", "\\e").replace("-", "\\-").replace("'", "\\(aq"))
 
 
 def bold(text):
@@ -144,14 +145,14 @@ def manual(description, commands):
             name = re.search("[A-Z]+", term).group()
             lines += [".TP", f"\\fI{name}\\fR", roff(text) + "."]
     lines.append(".SH OPTIONS")
-    for name in sorted({each.name for one in commands for each in one.options}):
-        having = [(one.name, each) for one in commands for each in one.options if each.name == name]
+    for name, text in sorted({(each.name, each.help) for one in commands for each in one.options}):
+        having = [(one.name, each) for one in commands for each in one.options if (each.name, each.help) == (name, text)]
         found = having[0][1]
         choices = f" ({', '.join(found.choices)})" if found.choices else ""
         only = "" if len(having) == len(commands) else f" Only for {', '.join(one for one, _ in having)}."
         names = f"-{found.short}, --{name}" if found.short else f"--{name}"
         lines += [".TP", bold(names) + (f" \\fI{found.value}\\fR" if found.value else ""), roff(f"{found.help}{choices}.{only}")]
-    lines += [".SH RULES", roff("--rule NAME=LEVEL sets one of these to off, warn or error, and so does the section ranges of a manifest."), ".nf"]
+    lines += [".SH RULES", roff('`--rule NAME=LEVEL` sets one of these to `off`, `warn` or `error`, and `--rule all=LEVEL` sets all of them. The section "ranges" of a manifest sets them too.'), ".nf"]
     lines += [".in +4", roff('{"ranges": {"rules": {"any-zero": "off", "no-match": "error"}}}'), ".in", ".fi"]
     for name, text in rules().items():
         lines += [".TP", bold(name), roff(" ".join(re.sub(r"\[(\w+)\]\([^)]*\)", r"\1", text).split()))]

@@ -34,7 +34,7 @@ _ranges() {
         key) options="--color -j --json -0 --null --tags --skip-invalid -h --help -V --version" ;;
         increment) options="--color -j --json --preid --base -h --help -V --version" ;;
         difference) options="--color -j --json -q --quiet -h --help -V --version" ;;
-        coerce) options="--color -j --json --rtl -h --help -V --version" ;;
+        coerce) options="--color -j --json -p --pre --rtl -h --help -V --version" ;;
     esac
     case $word in -*) COMPREPLY=($(compgen -W "$options" -- "$word")); return ;; esac
     case ${COMP_WORDS[1]} in check)

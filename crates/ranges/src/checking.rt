@@ -181,7 +181,7 @@ fn warn<O: Write, E: Write>(
         report.add(console, entry, Finding::by(Rule::NpmDiffers, EMPTY_AT_END))?;
     }
     if entry.kind != Kind::Dependency && (range.contains(',') || range.contains("&&")) {
-        let message = "node-semver rejects `,` and `&&`: write a space";
+        let message = "node-semver refuses `,` and `&&`: write a space";
         report.add(
             console,
             entry,

@@ -250,7 +250,7 @@ const OTHERS: [[&str; 4]; 2] = [
     [
         "invalid",
         "error",
-        "What reads the file refuses the text.",
+        "A program that reads the file refuses this string.",
         "Write a range, a version or a specifier, as the message says.",
     ],
 ];

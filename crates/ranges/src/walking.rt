@@ -360,7 +360,7 @@ fn listed<R: Runtime + AllocGlobal, O: Write, E: Write>(
     match list(rt, folder, left) {
         Ok(held) => {
             if held.has_other {
-                let message = "passed over what has a name that isn't valid UTF-8";
+                let message = "passed over a name that isn't valid UTF-8";
                 let told = console.complain(Shown(shown_folder(folder)), message);
                 *status = status.worse(told);
             }

@@ -184,7 +184,7 @@ const CANONICAL: Argument = Argument {
 const RULE: Argument = Argument {
     name: "rule",
     form: Form::Values("NAME=LEVEL"),
-    help: "Set a rule's level: off, warn (or warning) or error",
+    help: "Set the level of a rule, or of all rules: off, warn (or warning) or error",
 };
 
 const STRICT: Argument = Argument {
@@ -253,7 +253,7 @@ const MORE_RANGES: Argument = Argument {
 const WHERE: Argument = Argument {
     name: "where",
     form: Form::Value("KEY,PRE", &["json"]),
-    help: "Print a condition of SQL, by the columns of the key and of whether it is a pre-release",
+    help: "Print an SQL condition over two columns: KEY, the sort key, and PRE, whether the version is a pre-release",
 };
 
 const NEW: Argument = Argument {
@@ -283,7 +283,7 @@ const OTHER: Argument = Argument {
 const KIND: Argument = Argument {
     name: "KIND",
     form: Form::Word(KINDS),
-    help: "The kind of the next version",
+    help: "Which next version to print",
 };
 
 const VERSION_BEFORE: Argument = Argument {
@@ -301,7 +301,7 @@ const PREID: Argument = Argument {
 const BASE: Argument = Argument {
     name: "base",
     form: Form::Choice("NUMBER", BASES),
-    help: "The first number of a pre-release, or none",
+    help: "The number that a new pre-release gets after its identifiers, or none",
 };
 
 const VERSIONS: Argument = Argument {
@@ -405,8 +405,8 @@ Examples:
   ranges check --exclude fixtures --files .
 
 Rules: any-zero, contained-alternative, disjoint-sections, dropped-alternative, duplicate-key, empty-alternative,
-ignored-comparator, no-match, npm-differs, odd-engine, odd-path, odd-section, odd-tag, unmatched-workspace, and off if nothing
-sets them, meta-without-range, not-canonical, pre-release-bound. A rule at the level warn prints a warning.
+ignored-comparator, no-match, npm-differs, odd-engine, odd-path, odd-section, odd-tag, unmatched-workspace. These are
+off unless you set them: meta-without-range, not-canonical, pre-release-bound. A rule at the level warn prints a warning.
 
 Exit status: 0 no error; 1 an error, or with --strict a warning, or --dry-run prints a change; 2 unknown arguments;
 3 a file can't be read or written; 5 out of memory; 6 output can't be written. Only other commands end with 4.",
@@ -470,7 +470,7 @@ Examples:
     },
     Entry {
         name: "overlap",
-        about: "Check whether every two of the ranges match a version in common",
+        about: "Check whether each pair of ranges shares a version",
         arguments: &[JSON, GRAMMAR, PRE, QUIET, TWO_RANGES],
         examples: "\
 Examples:
@@ -574,7 +574,7 @@ Examples:
     },
     Entry {
         name: "increment",
-        about: "Print the next version of a kind",
+        about: "Print the next major, minor, patch or pre-release version",
         arguments: &[JSON, PREID, BASE, KIND, VERSION_BEFORE],
         examples: "\
 Examples:
@@ -583,7 +583,7 @@ Examples:
     },
     Entry {
         name: "difference",
-        about: "Print the kind of the step between two versions",
+        about: "Print what changed between two versions, such as minor",
         arguments: &[JSON, QUIET, ONE, OTHER],
         examples: "\
 Examples:
