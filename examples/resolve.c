@@ -18,7 +18,7 @@ static const struct dependency {
     {"router", "^2..1", ROUTER},
 };
 
-/* The length of this line, counted from 0, of a text, which is moved there. */
+/* Moves *text to the start of this line, counted from 0, and returns the line's length. */
 static int find_line(const char **text, size_t line) {
     while (line--) *text = strchr(*text, '\n') + 1;
     return (int)(strchr(*text, '\n') - *text);

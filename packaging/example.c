@@ -1,4 +1,4 @@
-/* Whether ^1.2 matches 1.3.0, by the installed library; prints it as the README of bindings/c does. */
+/* Prints whether ^1.2 matches 1.3.0, by the installed library. */
 #include <deno_semver/semver.h>
 #include <stdio.h>
 #include <string.h>

@@ -43,19 +43,20 @@ enum {
 /* what semver_why asks about */
 enum { SEMVER_PACKAGE = 0, SEMVER_REFERENCE = 1 };
 
-/* pre-releases match by npm's rule, or wherever they lie between the bounds; any other number means the latter, too */
+/* RESTRICTED: a pre-release matches only if a bound is a pre-release of the same three numbers (npm's rule). ADMITTED, or any other number:
+ * each pre-release between the bounds matches. */
 enum { SEMVER_RESTRICTED = 0, SEMVER_ADMITTED = 1 };
 
-/* kinds of steps from one version to the next; semver_difference also returns that there is none */
+/* which next version, or what changed between two versions; semver_difference also returns NO_DIFFERENCE */
 enum {
     SEMVER_MAJOR = 0, SEMVER_MINOR = 1, SEMVER_PATCH = 2,
-    SEMVER_PREMAJOR = 3, SEMVER_PREMINOR = 4, SEMVER_PREPATCH = 5, /* a pre-release of the next of these */
+    SEMVER_PREMAJOR = 3, SEMVER_PREMINOR = 4, SEMVER_PREPATCH = 5, /* the first pre-release of the next major, minor or patch version */
     SEMVER_PRERELEASE = 6,                                         /* the next pre-release */
     SEMVER_RELEASE = 7,                                            /* the release of a pre-release */
     SEMVER_NO_DIFFERENCE = 8
 };
 
-/* the number after the identifiers of a first pre-release, or none */
+/* the number that a new pre-release gets after its identifiers, or no number */
 enum { SEMVER_BASE_ZERO = 0, SEMVER_BASE_ONE = 1, SEMVER_NO_BASE = 2 };
 
 /* which of the versions in a string semver_coerce returns: the first, or the one that ends last */
@@ -119,13 +120,13 @@ int32_t semver_sort(const char *versions, size_t versions_len, size_t *places, s
 /* The order of two versions, builds aside: BEFORE (the first comes before the other), SAME or AFTER. */
 int32_t semver_compare(const char *one, size_t one_len, const char *other, size_t other_len, size_t *place);
 
-/* The next version of a kind, without a build: YES. It is the next release, or the first pre-release of the next release. Such a
- * pre-release has your identifiers, separated by ".", and then the number of `base`. SEMVER_PATCH of 1.2.3-rc.1 is its own release,
- * 1.2.3. SEMVER_MINOR also gives a pre-release's own release if the patch is 0, and SEMVER_MAJOR if the minor and the patch are 0.
- * SEMVER_PRERELEASE raises the last number of a pre-release that begins with your identifiers and goes on with a number. If you give no
- * identifiers, it raises the last number of any pre-release. A pre-release with other identifiers gets yours, so the result may come
- * before the version that you passed. The code is NO_INCREMENT if a number would exceed 18446744073709551615, if you ask for the
- * SEMVER_RELEASE of a release, or if the new pre-release would be empty, invalid or the same as the old one. */
+/* The next major, minor, patch or pre-release version, without a build: YES. A new pre-release has your identifiers, separated by ".", and
+ * then the number of `base`. SEMVER_PATCH of 1.2.3-rc.1 is its own release, 1.2.3. SEMVER_MINOR also gives a pre-release's own release if
+ * the patch is 0, and SEMVER_MAJOR if the minor and the patch are 0. SEMVER_PRERELEASE raises the last number of a pre-release that begins
+ * with your identifiers and goes on with a number. If you give no identifiers, it raises the last number of any pre-release. A pre-release
+ * with other identifiers gets yours, so the result may come before the version that you passed. The code is NO_INCREMENT if a number would
+ * exceed 18446744073709551615, if you ask for the SEMVER_RELEASE of a release, or if the new pre-release would be empty, invalid or the
+ * same as the old one. */
 int32_t semver_increment(uint32_t release_type, const char *version, size_t version_len,
                          const char *identifiers, size_t identifiers_len, uint32_t base,
                          char *out, size_t out_len, size_t *needed);

@@ -33,7 +33,7 @@ CREATE FUNCTION semver_try(text) RETURNS semver AS 'MODULE_PATHNAME', 'deno_semv
   LANGUAGE C IMMUTABLE STRICT PARALLEL SAFE COST 10;
 COMMENT ON FUNCTION semver_key(semver) IS 'the string whose bytes compare as versions do by precedence';
 COMMENT ON FUNCTION semver_is_pre(semver) IS 'whether the version is a pre-release';
-COMMENT ON FUNCTION semver_try(text) IS 'the version of a text, or NULL if it is none';
+COMMENT ON FUNCTION semver_try(text) IS 'the version that a string is, or NULL if it is none';
 
 -- ---- ranges
 
@@ -85,7 +85,7 @@ CREATE FUNCTION semver_scans(range text, pre_releases boolean, grammar text DEFA
 CREATE FUNCTION semver_canonical(range text, grammar text DEFAULT 'npm') RETURNS text AS 'MODULE_PATHNAME', 'deno_semver_canonical'
   LANGUAGE C IMMUTABLE STRICT PARALLEL SAFE COST 20;
 COMMENT ON FUNCTION semver_scans(semver_range) IS 'what a range matches: the keys from low on and below high, of releases or of pre-releases';
-COMMENT ON FUNCTION semver_scans(text, boolean, text) IS 'the same of a string, by a grammar, and with every pre-release or not';
+COMMENT ON FUNCTION semver_scans(text, boolean, text) IS 'the scans of a range given as a string; you choose the grammar, and whether every pre-release matches';
 COMMENT ON FUNCTION semver_canonical(text, text) IS 'the canonical form of a range, or the tag';
 
 -- ---- orders
@@ -331,8 +331,8 @@ CREATE FUNCTION semver_matches(range text, version semver, pre_releases boolean 
   LANGUAGE C IMMUTABLE STRICT PARALLEL SAFE COST 10;
 CREATE FUNCTION semver_matches(range text, version text, pre_releases boolean DEFAULT false, grammar text DEFAULT 'npm') RETURNS boolean AS 'MODULE_PATHNAME', 'deno_semver_matches_text'
   LANGUAGE C IMMUTABLE STRICT PARALLEL SAFE COST 10;
-COMMENT ON FUNCTION semver_matches(text, semver, boolean, text) IS 'whether a version matches a range, of which no index is used';
-COMMENT ON FUNCTION semver_matches(text, text, boolean, text) IS 'whether the version of a text matches a range, of which no index is used';
+COMMENT ON FUNCTION semver_matches(text, semver, boolean, text) IS 'whether a version matches a range; uses no index';
+COMMENT ON FUNCTION semver_matches(text, text, boolean, text) IS 'whether a version given as a string matches a range; uses no index';
 
 -- ---- what \do, \df and \dAc show of the rest
 

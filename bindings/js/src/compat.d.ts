@@ -56,7 +56,7 @@ export class SemVer {
   comparePre(other: string | SemVer): -1 | 0 | 1;
   /** -1, 0 or 1, by the build. */
   compareBuild(other: string | SemVer): -1 | 0 | 1;
-  /** Makes this the next version of a kind; the build stays. */
+  /** Makes this the next major, minor, patch or pre-release version; the build stays. */
   inc(type: Step, identifier?: string, base?: IdentifierBase): this;
   /** Makes `version` anew from the numbers and the pre-release, and returns it. */
   format(): string;
@@ -198,16 +198,16 @@ export function ltr(version: string | SemVer, range: string | Range | Comparator
 /** A range that matches the same versions of this list as the given range, if its string is shorter; else the given range. */
 export function simplifyRange<T extends string | Range>(versions: readonly string[], range: T, options?: Loose): string | T;
 
-/** The kind of a step to the next version. */
+/** Which next version to make, or what changed between two versions. */
 export type ReleaseType = 'major' | 'premajor' | 'minor' | 'preminor' | 'patch' | 'prepatch' | 'prerelease' | 'release';
 
-/** How {@link inc} raises a version: to the next one of a kind. `pre` raises only the pre-release, and gives one to a release. */
+/** Which next version {@link inc} makes. `pre` raises only the pre-release, and gives one to a release. */
 type Step = ReleaseType | 'pre';
 
 /** The first number of a pre-release; `false` for none. */
 export type IdentifierBase = '0' | '1' | false;
 
-/** The next version of a kind; null where there is none, or where the version is invalid. */
+/** The next major, minor, patch or pre-release version; null where there is none, or where the version is invalid. */
 export function inc(version: string | SemVer, type: Step, options?: Loose, identifier?: string, base?: IdentifierBase): string | null;
 /** The same without options. */
 export function inc(version: string | SemVer, type: Step, identifier?: string, base?: IdentifierBase): string | null;

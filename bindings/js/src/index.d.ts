@@ -1,7 +1,8 @@
 /**
  * Versions and version ranges of npm and JSR.
  *
- * A version is a string or a {@link Version}. A range is a string or a {@link Range}. Objects may come from another copy of the package.
+ * A version is a string or a {@link Version}. A range is a string or a {@link Range}. You may also pass an object that another copy of this
+ * package made.
  *
  * If an argument has another type, the call throws a `TypeError` with the parameter's name. If a string is invalid, it throws a
  * {@link RangeSyntaxError} or a {@link VersionSyntaxError}; if a range is a tag, a {@link TagError}; and if memory runs out, a
@@ -144,7 +145,7 @@ export class Range {
   constructor(range: string | Range, options?: Options);
   /** The string. */
   get text(): string;
-  /** The canonical form: the shortest usual form, meant to be stored. */
+  /** The canonical form, meant to be stored: each alternative in one usual form. */
   get canonical(): string;
   /** The tag, if the string is one. */
   get tag(): string | undefined;
@@ -227,7 +228,10 @@ export function sort<T extends string | Version>(versions: readonly T[], options
 /** -1, 0 or 1: the order of two versions by precedence, which ignores the build. */
 export function compare(one: string | Version, other: string | Version): -1 | 0 | 1;
 
-/** The kind of a step to the next version. `premajor`, `preminor` and `prepatch` give a pre-release of the next major, minor or patch. */
+/**
+ * Which next version to make, or what changed between two versions. `premajor`, `preminor` and `prepatch` give the first pre-release of the
+ * next major, minor or patch version.
+ */
 export type ReleaseType = 'major' | 'minor' | 'patch' | 'premajor' | 'preminor' | 'prepatch' | 'prerelease' | 'release';
 
 /** How a pre-release begins. */
@@ -248,17 +252,17 @@ export class IncrementError extends Error {
 }
 
 /**
- * The next version of a kind, without a build. After a pre-release, the next release may be its own: `patch` of `1.2.3-rc.1` is `1.2.3`.
- * `prerelease` raises the last number of a pre-release, if the pre-release begins with your identifier and goes on with a number, or if
- * you give no identifier.
+ * The next major, minor, patch or pre-release version, without a build. After a pre-release, the next release may be its own: `patch` of
+ * `1.2.3-rc.1` is `1.2.3`. `prerelease` raises the last number of a pre-release, if the pre-release begins with your identifier and goes
+ * on with a number, or if you give no identifier.
  * @example increment('1.2.3', 'prerelease', { identifier: 'beta' }) // '1.2.4-beta.0'
  * @throws {@link VersionSyntaxError} {@link IncrementError}
  */
 export function increment(version: string | Version, releaseType: ReleaseType, options?: PreReleaseStart): string;
 
 /**
- * The first version in a string, one to three numbers with a dot between neighbours, or undefined. With `rtl` it is the one that ends
- * last. With `preReleases` it keeps the pre-release and the build that come right behind its numbers.
+ * The first version in a string: one to three numbers, separated by dots. Undefined if there is none. With `rtl` it is the version that
+ * ends last. With `preReleases` it keeps the pre-release and the build that come right behind its numbers.
  * @example coerce('v3.4 replaces 3.3.1') // '3.4.0'
  */
 export function coerce(text: string, options?: { rtl?: boolean; preReleases?: boolean }): string | undefined;
@@ -298,7 +302,7 @@ export function common(ranges: readonly (string | Range)[], options?: Options): 
 /** The lowest version that the range matches; undefined where no version does. */
 export function minVersion(range: string | Range, options?: Options): string | undefined;
 
-/** The canonical form of the range, or its tag: the shortest usual form, meant to be stored. */
+/** The canonical form of the range, meant to be stored: each alternative in one usual form. If the range is a tag, the tag. */
 export function canonical(range: string | Range, options?: GrammarOptions): string;
 
 /** A bound of an alternative. */

@@ -1,4 +1,4 @@
-//! Checks the specifiers of an import map: those that are invalid, and pairs of one package whose requirements no version matches.
+//! Prints each invalid specifier of an import map, and each two specifiers of one package whose requirements share no version.
 //!
 //! usage: import_map [deno.json]
 

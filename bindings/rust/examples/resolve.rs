@@ -15,7 +15,7 @@ fn best(range: &str, versions: &[&str]) -> Result<Option<Version>, Box<dyn Error
     Ok(versions.into_iter().filter(|version| req.matches(version)).max())
 }
 
-/// What is wrong in the end: an error of a range has the mistake in it as its source.
+/// The message of the error's source, which says what is wrong in the range; of the error itself if it has no source.
 fn reason(error: &(dyn Error + 'static)) -> String {
     error.source().unwrap_or(error).to_string()
 }

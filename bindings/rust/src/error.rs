@@ -99,8 +99,8 @@ impl ParseErrorFailureError {
         ParseErrorFailureError { message, code_snippet, parsed: Some(Parsed::Version(text.to_owned())) }
     }
 
-    /// Where the string of the requirement or the version is invalid; a package's name before it doesn't count. In a requirement, the place
-    /// is in the first invalid alternative. This call finds it, in some 50 µs for a short requirement.
+    /// Where the requirement or the version is invalid. Indexes count from its first byte, not from the package's name before it. In a
+    /// requirement, the place is in the first invalid alternative. This call finds it, in some 50 µs for a short requirement.
     ///
     /// None if the place isn't known: for a path after a package, and for [`Version::from_parts`](crate::Version::from_parts).
     ///

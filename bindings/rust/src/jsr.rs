@@ -91,7 +91,7 @@ display! {
 /// Why a string isn't a dependency.
 #[derive(Clone, Debug, PartialEq, Eq)]
 pub enum JsrDepPackageReqParseError {
-    /// The string begins with this scheme; or it has no scheme, and this is the string.
+    /// The scheme is neither `jsr` nor `npm`. The field is the scheme, or the whole string if it has no scheme.
     NotExpectedScheme(String),
     /// The package is invalid.
     PackageReqParse(PackageReqParseError),

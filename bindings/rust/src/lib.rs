@@ -1,6 +1,7 @@
 // SPDX-License-Identifier: MIT
 
-//! Versions and version requirements of npm and JSR packages, at the paths of the crate `deno_semver`, over verified code.
+//! Versions and version requirements of npm and JSR packages. The types have the same paths as in the crate `deno_semver`; verified code
+//! gives the answers. A *requirement* is a range or a tag; other pages call it a range.
 //!
 //! ```
 //! use deno_semver_proved::{Version, VersionReq};

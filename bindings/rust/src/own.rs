@@ -314,7 +314,7 @@ impl VersionRangeSet {
         self.0.iter().any(|range| range.satisfies(version))
     }
 
-    /// Whether the bounds of a range of one set and of a range of the other overlap.
+    /// Whether any range of this set overlaps any range of the other, by their bounds.
     pub fn intersects_set(&self, other: &VersionRangeSet) -> bool {
         self.0.iter().any(|one| other.0.iter().any(|two| one.intersects_range(two)))
     }

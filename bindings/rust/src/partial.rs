@@ -1,5 +1,5 @@
-//! Partial versions, such as `1.2.*`, and the ranges that they mean in a requirement. The proved library parses a string for each such
-//! range.
+//! Partial versions, such as `1.2.*`, and the ranges that they mean in a requirement. For each such range, this module writes a string and
+//! the proved library parses it.
 
 use crate::calls::Grammar;
 use crate::error::display;
@@ -55,34 +55,35 @@ fn range(grammar: Grammar, text: &str) -> VersionRange {
 }
 
 impl Partial {
-    /// The range of this after `~`.
+    /// The range that this partial version means after `~`.
     pub fn as_tilde_version_range(&self) -> VersionRange {
         range(Grammar::Strict, &format!("~{self}"))
     }
 
-    /// The range of this after `^`.
+    /// The range that this partial version means after `^`.
     pub fn as_caret_version_range(&self) -> VersionRange {
         range(Grammar::Strict, &format!("^{self}"))
     }
 
-    /// The range of this alone.
+    /// The range that this partial version means alone.
     pub fn as_equal_range(&self) -> VersionRange {
         range(Grammar::Strict, &self.to_string())
     }
 
-    /// The range of this after `>=` or `>`.
+    /// The range that this partial version means after `>=` or `>`.
     pub fn as_greater_than(&self, start_kind: VersionBoundKind) -> VersionRange {
         let equals = if start_kind == VersionBoundKind::Inclusive { "=" } else { "" };
         range(Grammar::Normalized, &format!(">{equals}{self}"))
     }
 
-    /// The range of this after `<=` or `<`.
+    /// The range that this partial version means after `<=` or `<`.
     pub fn as_less_than(&self, end_kind: VersionBoundKind) -> VersionRange {
         let equals = if end_kind == VersionBoundKind::Inclusive { "=" } else { "" };
         range(Grammar::Normalized, &format!("<{equals}{self}"))
     }
 
-    /// The range of this alone, without its pre-release and build. If the start is exclusive, so is the end.
+    /// The range that this partial version means alone, without its pre-release and build. If you ask for an exclusive start, the end is
+    /// exclusive too.
     pub fn as_greater_range(&self, start_kind: VersionBoundKind) -> VersionRange {
         let range = Partial { pre: CowVec::new(), build: CowVec::new(), ..*self }.as_equal_range();
         let of_kind = |bound: RangeBound| match bound {

@@ -4,7 +4,7 @@ use crate::calls::{failed, with_text, NO, NO_INCREMENT, YES};
 use crate::externs::{semver_coerce, semver_difference, semver_increment};
 use crate::Version;
 
-/// The kind of a step to the next version.
+/// Which next version to make, or what changed between two versions.
 #[derive(Clone, Copy, Debug, PartialEq, Eq)]
 #[repr(u32)]
 pub enum ReleaseType {
@@ -26,7 +26,7 @@ pub enum ReleaseType {
     Release = 7,
 }
 
-/// The number after the identifiers of a first pre-release.
+/// The number that a new pre-release gets after its identifiers.
 #[derive(Clone, Copy, Debug, Default, PartialEq, Eq)]
 #[repr(u32)]
 pub enum Base {
@@ -70,9 +70,9 @@ fn coerced(text: &str, which: Coerced, pre_releases: bool) -> Option<Version> {
 }
 
 impl Version {
-    /// The next version of a kind, without a build. A first pre-release has `identifiers`, with `.` between them, and then the number of
-    /// `base`. [`ReleaseType::PreRelease`] raises the last number of a pre-release, if the pre-release begins with the identifiers and goes
-    /// on with a number, or if you give no identifiers.
+    /// The next major, minor, patch or pre-release version, without a build. A new pre-release begins with `identifiers`, separated by `.`;
+    /// then comes the number of `base`. [`ReleaseType::PreRelease`] raises the last number of a pre-release, if the pre-release begins with
+    /// the identifiers and goes on with a number, or if you give no identifiers.
     ///
     /// After a pre-release, the next release may be its own. A pre-release that gets other identifiers may come before the version that you
     /// raise.

@@ -29,12 +29,12 @@ impl StackString {
         StackString::default()
     }
 
-    /// The string of a text that lives as long as the program.
+    /// Makes a `StackString` of a `'static` string.
     pub fn from_static(text: &'static str) -> StackString {
         StackString::from_str(text)
     }
 
-    /// The string of a text.
+    /// Makes a `StackString` of a string.
     #[allow(clippy::should_implement_trait)]
     #[inline]
     pub fn from_str(text: &str) -> StackString {
@@ -47,12 +47,12 @@ impl StackString {
         StackString(if is_short { Text::Short(Short::concat(parts)) } else { Text::Long(parts.concat().into()) })
     }
 
-    /// The string of an owned text.
+    /// Makes a `StackString` of an owned string.
     pub fn from_string(text: String) -> StackString {
         StackString::from_str(&text)
     }
 
-    /// The string of a text that is owned or borrowed.
+    /// Makes a `StackString` of a string that is owned or borrowed.
     pub fn from_cow(text: Cow<'_, str>) -> StackString {
         StackString::from_str(&text)
     }

@@ -38,8 +38,8 @@ pub struct VersionParts {
 /// A version. You read its parts `major`, `minor`, `patch`, `pre` and `build` as fields, and make a version of parts by
 /// [`Version::from_parts`].
 ///
-/// `Eq`, `Hash` and `Ord` include the build: the order is by precedence, then by build. To compare a version that has a pre-release or a
-/// build, or to match it again, the crate needs a value, which it makes once; all copies of the version share it.
+/// `Eq`, `Hash` and `Ord` include the build: the order is by precedence, then by build. To compare a version with a pre-release or a
+/// build, or to match it again, the crate parses it into a handle of the C library. It does so once; all copies of the version share it.
 #[derive(Default)]
 pub struct Version {
     // The release of the three numbers. Its lists are empty, so there is nothing to drop.

@@ -20,7 +20,7 @@ use std::sync::{Arc, OnceLock};
 /// A version requirement: ranges, or a tag. Two are equal if they have the same bounds in the same order, or are the same tag, whatever
 /// their strings.
 ///
-/// To match, the crate needs a value that it makes on the first such call; copies that you make later share it.
+/// The first time that you match, the crate parses the requirement into a handle of the C library. Copies that you make later share it.
 #[derive(Clone)]
 pub struct VersionReq {
     text: StackString,
@@ -86,7 +86,7 @@ impl VersionReq {
         Ok(VersionReq { text: kept.into(), grammar, is_tag, parsed: Lazy::Later(OnceLock::new()) })
     }
 
-    /// The requirement of these ranges or this tag, with another string.
+    /// A requirement that has these ranges or this tag, and `raw_text` as its string.
     ///
     /// # Panics
     ///
