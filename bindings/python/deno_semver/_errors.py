@@ -11,9 +11,9 @@ class SemverError(ValueError):
     `text` is the string, and `message` says what is wrong with it. `index` is its index in a list, or among the arguments of its kind.
 
     `start` is the index of the character at which the string goes wrong, and `end` the index at which the invalid part ends. That part is
-    an alternative of the range, or of the range in a package, or else the whole string. `start` and `end` are None if
-    they aren't known. `expected` is
-    what could be at `start`: "digit", "letter", "whitespace", "end", "name", or a string such as "."; it is empty if that isn't known.
+    an alternative of the range, or of the range in a package, or else the whole string. `start` and `end` are None if they aren't known.
+    `expected` is what could be at `start`: "digit", "letter", "whitespace", "end", "name", or a string such as "."; it is empty if that
+    isn't known.
 
     >>> from deno_semver import Range
     >>> try:

@@ -215,8 +215,8 @@ _BASES = {0: 0, 1: 1, None: 2}
 
 
 def increment(version: V, release_type: ReleaseType, *, identifier: str = "", base: Optional[int] = 0) -> V:
-    """The next major, minor, patch or pre-release version, without a build. A new pre-release begins with the identifier; then comes `base`:
-    0, 1, or None for no number.
+    """The next major, minor, patch or pre-release version, without a build. A new pre-release begins with the identifier; then comes
+    `base`: 0, 1, or None for no number.
 
     After a pre-release, the next release may be its own. "prerelease" raises the last number of a pre-release, if the pre-release begins
     with the identifier and goes on with a number, or if you give no identifier.
