@@ -137,7 +137,7 @@ int32_t semver_increment(uint32_t release_type, const char *version, size_t vers
 int32_t semver_coerce(uint32_t first_or_last, const char *text, size_t text_len, uint32_t pre_releases,
                       char *out, size_t out_len, size_t *needed);
 
-/* The kind of the step between two versions, in either direction. It is the kind of the first number that differs, such as SEMVER_MINOR, or
+/* What changed between two versions, whichever is the higher one. It is the first number that differs, such as SEMVER_MINOR, or
  * SEMVER_PREMINOR if the higher version is a pre-release. Between two pre-releases of the same numbers it is SEMVER_PRERELEASE. From a
  * pre-release to its own release, it is SEMVER_PATCH if the release's patch isn't 0, else SEMVER_MINOR if its minor isn't 0, else
  * SEMVER_MAJOR. From a pre-release of a major version to any release, it is SEMVER_MAJOR. SEMVER_NO_DIFFERENCE if the versions have the
@@ -367,10 +367,10 @@ int32_t semver_list_lowest(const semver_list *list, const semver_req *range, uin
 int32_t semver_list_sort(const semver_list *list, size_t *places, size_t places_len, size_t *needed);
 
 /* Makes the scans of a range, and puts them into a handle, as semver_req_read does a range: YES, and `*count` is how many there are; or
- * TAG. A scan is about one kind of versions: releases or pre-releases. The range matches a version exactly if its sort key is in a scan
- * of its kind: at or above `low`, and below `high`, compared by bytes. The scans about releases come first. Those of a kind are in
- * ascending order, with a gap between one and the next, and none is empty. With any code but YES `handle` and `*count` stay as they
- * were. */
+ * TAG. A scan is either of releases or of pre-releases. The range matches a release exactly if its sort key is in a scan of releases, and
+ * a pre-release exactly if its key is in a scan of pre-releases: at or above `low`, and below `high`, compared by bytes. The scans of
+ * releases come first. Then come those of pre-releases. Both are in ascending order, with a gap between one scan and the next, and none is
+ * empty. With any code but YES `handle` and `*count` stay as they were. */
 int32_t semver_scans_read(const semver_req *range, uint32_t pre_releases, semver_scans *handle, size_t *count);
 
 /* Frees the scans that a handle holds: like semver_req_free. */

@@ -211,7 +211,7 @@ export type IdentifierBase = '0' | '1' | false;
 export function inc(version: string | SemVer, type: Step, options?: Loose, identifier?: string, base?: IdentifierBase): string | null;
 /** The same without options. */
 export function inc(version: string | SemVer, type: Step, identifier?: string, base?: IdentifierBase): string | null;
-/** The kind of the step between two versions; null if they have the same precedence. */
+/** What changed between two versions; null if they have the same precedence. */
 export function diff(one: string | SemVer, other: string | SemVer): ReleaseType | null;
 /** The options of {@link coerce}. With `includePrerelease` it takes a pre-release and a build, too. */
 export interface CoerceOptions extends Options {

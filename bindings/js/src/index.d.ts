@@ -159,8 +159,9 @@ export class Range {
   /** Whether both ranges have the same bounds in the same order, or are the same tag, whatever their strings. */
   equals(other: string | Range): boolean;
   /**
-   * What the range matches, as scans of an index on {@link Version.sortKey}: a version matches exactly if its key is in a scan of its
-   * kind. The scans of releases come first. Those of a kind are in ascending order, with a gap between one and the next.
+   * What the range matches, as scans of an index on {@link Version.sortKey}: a release matches exactly if its key is in a scan of
+   * releases, and a pre-release exactly if its key is in a scan of pre-releases. The scans of releases come first. Then come those of
+   * pre-releases. Both are in ascending order, with a gap between one scan and the next.
    * @throws {@link TagError}
    * @example new Range('^1.2').scans() // [{ isPre: false, low: 'A1A2A0~', high: 'A2A0A0~' }]
    */
@@ -268,7 +269,7 @@ export function increment(version: string | Version, releaseType: ReleaseType, o
 export function coerce(text: string, options?: { rtl?: boolean; preReleases?: boolean }): string | undefined;
 
 /**
- * The kind of the step between two versions, in either direction; `null` if they have the same precedence.
+ * What changed between two versions, whichever is the higher one; `null` if they have the same precedence.
  * @example difference('1.2.3', '1.3.0-rc.1') // 'preminor'
  * @throws {@link VersionSyntaxError}
  */

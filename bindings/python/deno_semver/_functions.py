@@ -266,7 +266,7 @@ def coerce(text: str, *, rtl: bool = False, pre_releases: bool = False) -> Optio
 
 
 def difference(one: AnyVersion, other: AnyVersion) -> Optional[ReleaseType]:
-    """The kind of the step between two versions, in either direction; None if they have the same precedence.
+    """What changed between two versions, whichever is the higher one; None if they have the same precedence.
 
     >>> difference("1.2.3", "1.3.0-rc.1")
     'preminor'

@@ -123,7 +123,7 @@ impl Version {
         coerced(text, which, true)
     }
 
-    /// The kind of the step between two versions, in either direction; none if they have the same precedence.
+    /// What changed between two versions, whichever is the higher one; none if they have the same precedence.
     ///
     /// ```
     /// use deno_semver_proved::{ReleaseType, Version};

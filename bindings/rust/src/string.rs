@@ -16,7 +16,7 @@ enum Text {
     Long(Arc<str>),
 }
 
-/// A string of 24 bytes that holds up to 22 bytes of text in itself; copies of a longer one share their text.
+/// A string of 24 bytes that holds up to 22 bytes of UTF-8 in itself; copies of a longer one share their bytes.
 #[derive(Clone, PartialEq, Eq)]
 pub struct StackString(Text);
 
@@ -57,7 +57,7 @@ impl StackString {
         StackString::from_str(&text)
     }
 
-    /// The text.
+    /// The string as a `&str`.
     #[inline]
     pub fn as_str(&self) -> &str {
         match &self.0 {
@@ -71,17 +71,17 @@ impl StackString {
         self.push_str(c.encode_utf8(&mut [0; 4]));
     }
 
-    /// Appends a text.
+    /// Appends a string.
     pub fn push_str(&mut self, text: &str) {
         *self = StackString::concat(&[self.as_str(), text]);
     }
 
-    /// The string, with each occurrence of a text replaced by another.
+    /// The string, with each occurrence of `from` replaced by `to`.
     pub fn replace(&self, from: &str, to: &str) -> StackString {
         StackString::from_string(self.as_str().replace(from, to))
     }
 
-    /// The text as an owned one.
+    /// The string as a `String`.
     pub fn into_string(self) -> String {
         self.as_str().to_owned()
     }
