@@ -317,6 +317,7 @@ fn has_text(entry: &Entry) -> bool {
         entry.kind,
         Kind::Mistake(_)
             | Kind::Odd(_)
+            | Kind::OddSection(_)
             | Kind::Meta
             | Kind::Repeated
             | Kind::Setting
