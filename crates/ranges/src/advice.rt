@@ -2,9 +2,9 @@
 
 use crate::rules::Rule;
 use answers::asking::{Answer, Problem};
-use answers::explained::{Meaning, Piece};
+use answers::explained::{Matches, Meaning, Piece};
 use answers::questions::version_outside;
-use deno_semver::{PreRelease, RangeBound, VersionBound, VersionBoundKind, VersionRange};
+use deno_semver::{PreRelease, RangeBound, Version, VersionBound, VersionBoundKind, VersionRange};
 use semver_req::common::values::Flavour;
 use std::alloc::{AllocError, Global};
 
@@ -71,17 +71,31 @@ fn is_contained(alloc: Global, one: &Piece, other: &Piece) -> Result<bool, Alloc
     }
 }
 
-// Whether one alternative is another without its pre-release, as of `^6.0.0 || ^6.0.0-pre.1`, which packages write on purpose.
-fn is_release_of(one: &Piece, other: &Piece) -> bool {
-    match other
-        .text
-        .as_str()
-        .trim()
-        .strip_prefix(one.text.as_str().trim())
-    {
-        Some(rest) => rest.starts_with('-'),
-        None => false,
+// The version at which an alternative starts, if it has such, and the operator that the alternative begins with.
+fn start_of(piece: &Piece) -> Option<(&Version, Option<char>)> {
+    let operator = piece.text.as_str().trim().chars().next();
+    match &piece.meaning {
+        Meaning::Range(
+            Matches {
+                range: VersionRange {
+                    start: RangeBound::Version(start),
+                    ..
+                },
+                ..
+            },
+        ) => Some((&start.version, operator.filter(|c| !c.is_ascii_digit()))),
+        _ => None,
     }
+}
+
+// Whether one alternative is another without its pre-release, as of `^6.0 || ^6.0.0-pre.1`, which packages write on purpose.
+fn is_release_of(one: &Piece, other: &Piece) -> bool {
+    let (Some((one, operator)), Some((other, other_operator))) = (start_of(one), start_of(other))
+    else {
+        return false;
+    };
+    let is_same = one.major == other.major && one.minor == other.minor && one.patch == other.patch;
+    is_same && operator == other_operator && one.pre.is_empty() && !other.pre.is_empty()
 }
 
 // Whether the alternative is a range, not empty, that some version matches.

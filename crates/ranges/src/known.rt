@@ -7,7 +7,7 @@ use answers::questions::matches;
 use deno_semver::PreRelease;
 use semver_req::common::values::Flavour;
 use std::alloc::{AllocError, Global};
-use std::collections::{BTreeMap, HashSet};
+use std::collections::BTreeMap;
 use std::fs;
 use std::io::ErrorKind;
 use std::rt::Files;
@@ -37,9 +37,10 @@ pub struct Known {
     catalogs: Catalogs,
     /// The versions of packages, by name.
     versions: BTreeMap<String, String>,
-    /// The names of workspaces, and of those which several have.
-    names: HashSet<String>,
-    repeated: HashSet<String>,
+    /// How many workspaces have a name; the root of all isn't counted.
+    names: BTreeMap<String, usize>,
+    /// Whether all of them are known.
+    is_whole: bool,
 }
 
 // The text of the first entry of a kind, if there is one.
@@ -64,17 +65,16 @@ impl Known {
             workspace: Workspace::None,
             catalogs: BTreeMap::new(alloc),
             versions: BTreeMap::new(alloc),
-            names: HashSet::new(alloc),
-            repeated: HashSet::new(alloc),
+            names: BTreeMap::new(alloc),
+            is_whole: false,
         }
     }
 
-    // Learns the name of a workspace.
-    fn learn_name(&mut self, alloc: Global, name: &str) -> Result<(), AllocError> {
-        if self.names.insert(String::from_str(alloc, name)?)? {
-            return Ok(());
-        }
-        let _ = self.repeated.insert(String::from_str(alloc, name)?)?;
+    // Learns the name of the root, or of a workspace.
+    fn learn_name(&mut self, alloc: Global, name: &str, is_root: bool) -> Result<(), AllocError> {
+        let before = self.names.get(name).copied().unwrap_or(0);
+        let count = before.saturating_add(usize::from(!is_root));
+        let _ = self.names.insert(String::from_str(alloc, name)?, count)?;
         Ok(())
     }
 
@@ -108,7 +108,7 @@ impl Known {
             None
         } else if !is_package_name(name) {
             Some("npm refuses it: no package has such a name")
-        } else if self.repeated.contains(name) {
+        } else if self.names.get(name).copied().unwrap_or(0) > 1 {
             Some("npm refuses it: another workspace has the same name")
         } else {
             None
@@ -138,13 +138,16 @@ impl Known {
             )?;
             return Ok(Some(message));
         }
-        let range = match source_of(text) {
-            Source::Registry(range) if behind_protocol(text, "workspace:").is_some() => range,
-            _ => return Ok(None),
+        let Some(asked) = behind_protocol(text, "workspace:") else {
+            return Ok(None);
         };
-        let Some(version) = self
-            .versions
-            .get(renamed(text).unwrap_or(entry.name.as_str()))
+        let name = renamed(text).unwrap_or(entry.name.as_str());
+        let is_path = asked.starts_with(['.', '/'].as_slice());
+        if self.is_whole && !is_path && !self.names.contains_key(name) {
+            let message = format!(in alloc; "{who}: no workspace is named `{name}`")?;
+            return Ok(Some(message));
+        }
+        let (Source::Registry(range), Some(version)) = (source_of(text), self.versions.get(name))
         else {
             return Ok(None);
         };
@@ -195,6 +198,7 @@ pub fn known_of<R: Files + AllocGlobal>(rt: &R, group: &Group) -> Result<Known, 
     if known.workspace == Workspace::None {
         return Ok(known);
     }
+    known.is_whole = group.is_whole;
     for path in group.above.iter() {
         known.learn(
             alloc,
@@ -206,10 +210,9 @@ pub fn known_of<R: Files + AllocGlobal>(rt: &R, group: &Group) -> Result<Known, 
         let entries = entries_of(rt, path.as_str())?;
         known.learn(alloc, path.as_str(), entries.as_slice())?;
         if let Some(name) = text_of(entries.as_slice(), Kind::Name)
-            && place >= group.own
             && path.as_str().ends_with("package.json")
         {
-            known.learn_name(alloc, name)?;
+            known.learn_name(alloc, name, place < group.own)?;
         }
     }
     Ok(known)

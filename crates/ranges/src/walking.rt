@@ -40,6 +40,8 @@ pub struct Group {
     pub own: usize,
     /// The patterns of workspaces in these that no folder matches.
     pub unmatched: Vec<String>,
+    /// Whether these are all manifests of a workspace.
+    pub is_whole: bool,
     /// The manifests of the workspace that the folder or the file belongs to. The levels that they set count, too.
     pub above: Vec<String>,
 }
@@ -50,6 +52,7 @@ impl Group {
             paths: Vec::new(alloc),
             own: 0,
             unmatched: Vec::new(alloc),
+            is_whole: false,
             above: Vec::new(alloc),
         }
     }
@@ -702,6 +705,7 @@ fn manifests_here<R: Runtime + AllocGlobal, O: Write, E: Write>(
             found.unmatched.push(workspace.text)?;
         }
     }
+    found.is_whole = excludes.is_empty() && *status == Status::Answered;
     Ok(found)
 }
 
