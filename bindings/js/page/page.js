@@ -18,7 +18,7 @@ function make(name, className, ...children) {
 
 function boundsText({ start, end }) {
   if (start === null && end === null) return 'any version';
-  if (start?.version === end?.version) return `only ${start.version}`;
+  if (start?.version === end?.version) return `only ${start.version.split('+')[0]}`;
   const from = start && `>${start.inclusive ? '=' : ''}${start.version}`;
   const to = end && `<${end.inclusive ? '=' : ''}${end.version}`;
   return [from, to].filter(Boolean).join(' ');

@@ -412,6 +412,12 @@ fn check_specifier<O: Write, E: Write>(
     if let Some(message) = url_behind(text) {
         return report.add(console, entry, Finding::new(Cause::Refused, message));
     }
+    // The rest of a specifier that begins with the key comes behind it.
+    if entry.name.as_str().ends_with('/')
+        && matches!(text.get(4..), Some(rest) if rest.starts_with('/'))
+    {
+        return Ok(());
+    }
     match read_reference(console.alloc, text) {
         Ok(reference) => {
             let range = reference.reference.req.version_req.version_text();
@@ -630,9 +636,10 @@ fn check_sections<O: Write, E: Write>(
     Ok(())
 }
 
-// Whether the entry says that npm is the package manager.
-fn is_npm(entry: &Entry) -> bool {
-    entry.kind == Kind::Manager && entry.text.as_str().starts_with("npm@")
+// Whether the entries say that npm is the package manager; none if they don't say.
+fn is_of_npm(entries: &[Entry]) -> Option<bool> {
+    let manager = entries.iter().find(|entry| entry.kind == Kind::Manager)?;
+    Some(manager.text.as_str().starts_with("npm@"))
 }
 
 // What entries say of one another.
@@ -645,8 +652,8 @@ struct Names<'e> {
     overrides: Overrides<'e>,
     /// Whether the workspaces have a list of patterns.
     has_packages: bool,
-    /// Whether the file says that npm is its package manager.
-    is_of_npm: bool,
+    /// Whether the file says that npm is its package manager; none if it doesn't say.
+    is_of_npm: Option<bool>,
 }
 
 // What is checked: a file, and what holds for it.
@@ -689,7 +696,10 @@ fn check_relations<'e, O: Write, E: Write>(
                 let message = "npm refuses it: no package has such a name";
                 report.add(console, entry, Finding::new(Cause::Refused, message))?;
             }
-            if names.is_of_npm && npm::is_foreign(entry.text.as_str()) {
+            // npm links the workspaces of a root, whatever it asks of them.
+            let is_linked = file.is_root && file.known.has_workspace(entry.name.as_str());
+            let is_foreign = names.is_of_npm == Some(true) && npm::is_foreign(entry.text.as_str());
+            if is_foreign && !is_linked {
                 let message = "npm doesn't know this protocol, and `packageManager` is npm";
                 report.add(console, entry, Finding::new(Cause::Refused, message))?;
             }
@@ -762,7 +772,9 @@ fn check_entry<'e, O: Write, E: Write>(
         }
         Kind::Override(separator) => {
             check_key(console, report, entry, separator)?;
-            if file.is_root && separator.is_empty() && entry.depth == 1 {
+            // Bun takes another range, too; pnpm and yarn don't read npm's overrides.
+            let is_asked = file.is_root && names.is_of_npm != Some(false);
+            if is_asked && separator.is_empty() && entry.depth == 1 {
                 check_conflict(console, report, entry, &mut names.overrides)?;
             }
             Ok(())
@@ -841,7 +853,7 @@ fn check_entries<O: Write, E: Write>(
         peers: HashSet::new(console.alloc),
         overrides: Overrides::of(console.alloc, entries)?,
         has_packages: entries.iter().any(|entry| entry.kind == Kind::Packages),
-        is_of_npm: entries.iter().any(is_npm),
+        is_of_npm: is_of_npm(entries),
     };
     for entry in entries
         .iter()

@@ -102,6 +102,11 @@ impl Known {
         Ok(())
     }
 
+    /// Whether a workspace has this name.
+    pub fn has_workspace(&self, name: &str) -> bool {
+        self.names.get(name).copied().unwrap_or(0) > 0
+    }
+
     /// Why npm refuses the name of a workspace, if it does.
     pub fn refusal_of_name(&self, name: &str) -> Option<&'static str> {
         if self.workspace != Workspace::Package {

@@ -149,7 +149,7 @@ pub const RULES: [About; COUNT] = [
         rule: Rule::OddSection,
         name: "odd-section",
         level: Level::Warning,
-        finds: "A section of package.json isn't an object, or an override isn't a string, and npm passes over it.",
+        finds: "A section of package.json isn't an object, or an override isn't a string. npm accepts both.",
         help: "Write an object of names and ranges, as in `{\"react\": \"^18\"}`.",
     },
     About {

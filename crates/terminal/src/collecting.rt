@@ -36,12 +36,11 @@ fn has_patterns(place: Place) -> bool {
 fn misplaced(
     shape: Shape,
     place: Place,
-    section: &str,
-    is_at_top: bool,
     is_of_npm: bool,
+    is_section: bool,
+    is_engines: bool,
+    is_of_workspaces: bool,
 ) -> Option<Kind> {
-    let is_engines = is_at_top && section == "engines";
-    let is_of_workspaces = is_of_npm && section == "workspaces";
     let message = match place.text {
         Some((Kind::Engine, _)) if shape == Shape::Null => return None,
         Some((Kind::Engine, _)) => {
@@ -54,7 +53,7 @@ fn misplaced(
         Some((Kind::Manager, _)) => "expected a string, such as \"npm@1.2.3\"",
         Some((Kind::Level, _)) => "expected a string, such as \"off\"",
         Some((Kind::Workspace, _)) => "expected a string, such as \"packages/*\"",
-        Some((_, "overrides")) if is_of_npm => {
+        Some((_, "overrides")) if is_of_npm && shape != Shape::Null => {
             return Some(Kind::OddSection("not a string: npm passes over it"));
         }
         Some(_) => "expected a string, such as \"^1.2\"",
@@ -64,8 +63,8 @@ fn misplaced(
         None if is_of_workspaces && place.has_array => {
             "npm refuses it: workspaces config expects an Array"
         }
-        None if place.has_object && is_at_top && is_of_npm => {
-            return Some(Kind::OddSection("not an object: npm passes over it"));
+        None if place.has_object && is_section && is_of_npm => {
+            return Some(Kind::OddSection("not an object: npm finds no names in it"));
         }
         None if place.has_object => "expected an object",
         None if place.has_array => "expected a list",
@@ -285,13 +284,19 @@ impl Collector {
         if is_there || !self.is_strict(place, shape) {
             return Ok(None);
         }
-        let is_at_top = self.path.is_empty();
         let is_of_npm = self.format == Format::Package;
-        let section = match self.key.as_deref() {
-            Some(key) if is_at_top => key,
-            _ => self.first_key(),
-        };
-        let kind = match misplaced(shape, place, section, is_at_top, is_of_npm) {
+        let is_section = self.path.is_empty();
+        let is_engines = is_section && self.key.as_deref() == Some("engines");
+        let is_of_workspaces = self.is_workspaces() || self.first_key() == "workspaces";
+        let found = misplaced(
+            shape,
+            place,
+            is_of_npm,
+            is_section,
+            is_engines,
+            is_of_workspaces,
+        );
+        let kind = match found {
             Some(_)
                 if shape == Shape::Other && self.format == Format::Yaml && place.text.is_some() => {
                 Kind::Mistake("not a text to YAML: write it in quotes")
