@@ -16,9 +16,9 @@ function make(name, className, ...children) {
 
 // ---- what a range means, in words
 
-function boundsText({ start, end }) {
+function boundsText({ start, end, lowest }) {
   if (start === null && end === null) return 'any version';
-  if (start?.version === end?.version) return `only ${start.version.split('+')[0]}`;
+  if (lowest && start?.version === end?.version) return `only ${lowest}`;
   const from = start && `>${start.inclusive ? '=' : ''}${start.version}`;
   const to = end && `<${end.inclusive ? '=' : ''}${end.version}`;
   return [from, to].filter(Boolean).join(' ');

@@ -52,7 +52,7 @@ function lineOf({ text: raw, error, ...meaning }) {
   const { start, end, lowest } = meaning;
   if (error) return `"${text}": left out: ${error.message}`;
   if (lowest === null) return `"${text}": no version matches`;
-  if (start && start.version === end?.version) return `"${text}": only ${start.version}`;
+  if (start && start.version === end?.version) return `"${text}": only ${lowest}`;
   return `"${text}": ${boundsText(meaning)}, ${preReleasesText(meaning)}, lowest ${lowest}`;
 }
 
