@@ -8,7 +8,8 @@ from typing import Any, Optional, Tuple
 class SemverError(ValueError):
     """A string is invalid.
 
-    `text` is the string, and `message` says what is wrong with it. `index` is its index in a list, or among the arguments of its kind.
+    `text` is the string, and `message` says what is wrong with it. `index` is its index in a list; if a call takes several ranges or
+    versions, it says which of them is invalid, counted from 0.
 
     `start` is the index of the character at which the string goes wrong, and `end` the index at which the invalid part ends. That part is
     an alternative of the range, or of the range in a package, or else the whole string. `start` and `end` are None if they aren't known.

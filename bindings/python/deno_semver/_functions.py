@@ -324,7 +324,7 @@ def counterexample(one: AnyRange, other: AnyRange, *, grammar: Optional[Grammar]
 
 
 def is_subset(one: AnyRange, other: AnyRange, *, grammar: Optional[Grammar] = None, pre_releases: bool = False) -> bool:
-    """Whether the other range matches each version that the first one matches; if not, `counterexample` returns one that it doesn't.
+    """Whether the other range matches each version that the first one matches. If not, `counterexample` returns one that it doesn't match.
 
     >>> is_subset("^1.3", "^1.2")
     True
@@ -348,7 +348,7 @@ def is_equivalent(one: AnyRange, other: AnyRange, *, grammar: Optional[Grammar] 
 
 
 def common(*ranges: AnyRange, grammar: Optional[Grammar] = None, pre_releases: bool = False) -> Optional[str]:
-    """The lowest version that all ranges match, or None.
+    """The lowest version that all ranges match, or None. Without ranges it raises `TypeError`.
 
     >>> common("^1.2", "~1.4 || ^2")
     '1.4.0'
@@ -601,7 +601,7 @@ def parse_dependency(text: str, *, grammar: Grammar = "npm") -> Dependency:
 
 
 def export_name(path: str) -> str:
-    """The name of the export that the path of a module in a JSR package means.
+    """The export's name for a module's path in a JSR package.
 
     >>> export_name("mod.ts")
     './mod.ts'
