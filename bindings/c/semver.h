@@ -59,7 +59,7 @@ enum {
 /* the number that a new pre-release gets after its identifiers, or no number */
 enum { SEMVER_BASE_ZERO = 0, SEMVER_BASE_ONE = 1, SEMVER_NO_BASE = 2 };
 
-/* which of the versions in a string semver_coerce returns: the first, or the one that ends last */
+/* semver_coerce returns the first version in a string, or the one that ends last */
 enum { SEMVER_FIRST = 0, SEMVER_LAST = 1 };
 
 /* codes */
@@ -71,7 +71,7 @@ enum {
     SEMVER_INVALID_RANGE = -2,   /* a range, a package or a reference is invalid */
     SEMVER_INVALID_VERSION = -3,
     SEMVER_NOT_UTF8 = -4,        /* bytes aren't valid UTF-8 */
-    SEMVER_NO_GRAMMAR = -5,      /* no grammar, kind of step, base or other choice of the call has this number */
+    SEMVER_NO_GRAMMAR = -5,      /* a number is none of the call's choices: no grammar, release type, base, .. */
     SEMVER_NO_MEMORY = -6,       /* out of memory */
     SEMVER_NO_VALUE = -7,        /* a handle is empty, or holds a value of another kind */
     SEMVER_NO_INCREMENT = -8     /* there is no next version, or the identifiers of its pre-release are invalid */
@@ -96,8 +96,8 @@ int32_t semver_below(uint32_t grammar, const char *range, size_t range_len,
                      char *out, size_t out_len, size_t *needed);
 
 /* Which versions of a list, one per line, match the range: YES or TAG. With YES `answers[n]` is NO, YES or INVALID_VERSION for line n,
- * counted from 0, and `*needed` is the number of lines. With any other code `*needed` is 0. If there are more lines than `answers_len`,
- * or with any other code, `answers` stays as it was. */
+ * counted from 0, and `*needed` is the number of lines; if that is more than `answers_len`, `answers` stays as it was. With any other code
+ * `*needed` is 0, and `answers` stays as it was. */
 int32_t semver_filter(uint32_t grammar, const char *range, size_t range_len,
                       const char *versions, size_t versions_len, uint32_t pre_releases,
                       int8_t *answers, size_t answers_len, size_t *needed);
@@ -144,8 +144,8 @@ int32_t semver_coerce(uint32_t first_or_last, const char *text, size_t text_len,
  * same precedence. */
 int32_t semver_difference(const char *one, size_t one_len, const char *other, size_t other_len, size_t *place);
 
-/* Whether the bounds of two ranges overlap: NO or YES. There may be no version between them; semver_common is exact. Two tags overlap if
- * they are the same; a tag and a range never do. */
+/* Whether the bounds of two ranges overlap: NO or YES. The overlap may contain no version; semver_common tells. Two tags overlap if they
+ * are the same; a tag and a range never do. */
 int32_t semver_intersects(uint32_t grammar, const char *one, size_t one_len, const char *other, size_t other_len,
                           size_t *place);
 
@@ -208,8 +208,8 @@ int32_t semver_explain(uint32_t grammar, const char *range, size_t range_len, ui
  * the whole string is one alternative. */
 int32_t semver_errors(uint32_t grammar, const char *range, size_t range_len, char *out, size_t out_len, size_t *needed);
 
-/* Where a string stops being a version: YES, and `*place` is the index of the first wrong byte: no version begins with the bytes up to
- * and including it. If the string is a version, or could become one if it went on, `*place` is its length. */
+/* Finds where a string stops being a version. Returns YES, and `*place` is the index of the first wrong byte: no version begins with the
+ * bytes up to and including it. If the string is a version, or could become one if it went on, `*place` is its length. */
 int32_t semver_version_error(const char *version, size_t version_len, size_t *place);
 
 /* The parts of a version, as JSON: YES. "major", "minor" and "patch" are strings, and "build" and "pre" are arrays of strings. */
@@ -254,7 +254,7 @@ int32_t semver_version_reference(const char *text, size_t text_len, char *out, s
  * canonical form of the whole string), and "package" (as from semver_package). The grammar is that of the range. */
 int32_t semver_dependency(uint32_t grammar, const char *text, size_t text_len, char *out, size_t out_len, size_t *needed);
 
-/* The name of the export, such as ./mod.ts, that the path of a module in a JSR package means: YES. */
+/* The name of the export, such as ./mod.ts, for a module's path in a JSR package: YES. */
 int32_t semver_export_name(const char *path, size_t path_len, char *out, size_t out_len, size_t *needed);
 
 /* ---- values that you keep
@@ -322,9 +322,9 @@ int32_t semver_req_intersects(const semver_req *one, const semver_req *other);
 /* Whether two ranges have the same bounds in the same order, or are the same tag, whatever strings they were parsed from: NO or YES. */
 int32_t semver_req_equal(const semver_req *one, const semver_req *other);
 
-/* The order of two ranges: BEFORE, SAME or AFTER. A tag comes before ranges, and of two tags the greater comes first. Of two ranges the
- * one that begins higher comes first, and then the one that ends lower; builds are compared last. SAME means what semver_req_equal
- * means. */
+/* The order of two ranges: BEFORE, SAME or AFTER. A tag comes before ranges, and of two tags the one with the higher bytes comes first. Of
+ * two ranges the one that begins higher comes first, and then the one that ends lower; builds are compared last. SAME means what
+ * semver_req_equal means. */
 int32_t semver_req_order(const semver_req *one, const semver_req *other);
 
 /* The string that the range was parsed from: YES. npm's grammar trims it. */
@@ -340,7 +340,7 @@ int32_t semver_version_key(const semver_ver *handle, char *out, size_t out_len, 
 /* The order of two versions: like semver_compare. */
 int32_t semver_version_compare(const semver_ver *one, const semver_ver *other);
 
-/* The order of two versions in which builds decide last. */
+/* The order of two versions by precedence, and then by their builds: BEFORE, SAME or AFTER. */
 int32_t semver_version_order(const semver_ver *one, const semver_ver *other);
 
 /* Parses versions, one per line, into a handle, as semver_req_read does a range: YES, and `*lines` is the number of lines. A line that
@@ -367,10 +367,10 @@ int32_t semver_list_lowest(const semver_list *list, const semver_req *range, uin
 int32_t semver_list_sort(const semver_list *list, size_t *places, size_t places_len, size_t *needed);
 
 /* Makes the scans of a range, and puts them into a handle, as semver_req_read does a range: YES, and `*count` is how many there are; or
- * TAG. A scan is either of releases or of pre-releases. The range matches a release exactly if its sort key is in a scan of releases, and
- * a pre-release exactly if its key is in a scan of pre-releases: at or above `low`, and below `high`, compared by bytes. The scans of
- * releases come first. Then come those of pre-releases. Both are in ascending order, with a gap between one scan and the next, and none is
- * empty. With any code but YES `handle` and `*count` stay as they were. */
+ * TAG. A scan is either of releases or of pre-releases. The range matches a release exactly if its sort key is in a scan of releases, and a
+ * pre-release exactly if its key is in a scan of pre-releases: at or above `low`, and below `high`, compared by bytes. Scans of releases
+ * come first, then scans of pre-releases, each in ascending order, with a gap between one scan and the next. No scan is empty. With any
+ * code but YES `handle` and `*count` stay as they were. */
 int32_t semver_scans_read(const semver_req *range, uint32_t pre_releases, semver_scans *handle, size_t *count);
 
 /* Frees the scans that a handle holds: like semver_req_free. */

@@ -125,11 +125,11 @@ export class Version {
 
 /** The sort keys at or above `low` and below `high`, of the releases or the pre-releases that a range matches. */
 export interface Scan {
-  /** Whether it is about pre-releases. */
+  /** Whether the scan is of pre-releases. */
   isPre: boolean;
-  /** The lowest string that is in it. */
+  /** The lowest string in the scan. */
   low: string;
-  /** The lowest string above it. */
+  /** The lowest string above the scan. */
   high: string;
 }
 
@@ -160,8 +160,8 @@ export class Range {
   equals(other: string | Range): boolean;
   /**
    * What the range matches, as scans of an index on {@link Version.sortKey}: a release matches exactly if its key is in a scan of
-   * releases, and a pre-release exactly if its key is in a scan of pre-releases. The scans of releases come first. Then come those of
-   * pre-releases. Both are in ascending order, with a gap between one scan and the next.
+   * releases, and a pre-release exactly if its key is in a scan of pre-releases. Scans of releases come first, then scans of
+   * pre-releases, each in ascending order, with a gap between one scan and the next.
    * @throws {@link TagError}
    * @example new Range('^1.2').scans() // [{ isPre: false, low: 'A1A2A0~', high: 'A2A0A0~' }]
    */
@@ -294,7 +294,7 @@ export function counterexample(one: string | Range, other: string | Range, optio
 /** Whether both ranges match the same versions. */
 export function isEquivalent(one: string | Range, other: string | Range, options?: Options): boolean;
 
-/** Whether the bounds of two ranges overlap. There may be no version between them; {@link common} is exact. */
+/** Whether the bounds of two ranges overlap. The overlap may contain no version; {@link common} is exact. */
 export function intersects(one: string | Range, other: string | Range, options?: GrammarOptions): boolean;
 
 /** The lowest version that all ranges match; undefined if there is none, or if you pass no ranges. */
@@ -435,7 +435,7 @@ export function parseVersionReference(specifier: string): VersionReferenceParts;
 export function parseDependency(specifier: string, options?: GrammarOptions): DependencyParts;
 
 /**
- * The name of the export that the path of a module in a JSR package means.
+ * The export's name for a module's path in a JSR package.
  * @example exportName('mod.ts') // './mod.ts'
  * @throws {@link PackageSyntaxError} if the path has a lone surrogate
  */

@@ -1,4 +1,4 @@
-//! Prints each invalid specifier of an import map, and each two specifiers of one package whose requirements share no version.
+//! Prints each invalid specifier of an import map, and each pair of specifiers of one package whose requirements share no version.
 //!
 //! usage: import_map [deno.json]
 

@@ -21,7 +21,7 @@ const SAMPLE: &str = r#"{
   "npm": { "chalk@4.1.2": {}, "left-pad@1.3.0": {} }
 }"#;
 
-/// What the versions of a lockfile are for. What else it has is ignored.
+/// The requirements of a lockfile, and the versions that it gives them. Other entries are ignored.
 #[derive(Deserialize)]
 struct Lockfile {
     specifiers: BTreeMap<String, Version>,

@@ -10,7 +10,7 @@ use std::time::Instant;
 
 const COUNT: usize = 1_000;
 
-/// The lowest time of a pass, for each of so many calls.
+/// The time of the fastest pass, divided by its number of calls.
 fn time(name: &str, count: usize, mut pass: impl FnMut()) {
     let mut once = || {
         let start = Instant::now();
@@ -30,7 +30,7 @@ fn each<T, R>(name: &str, values: &[T], call: impl Fn(&T) -> R) {
     });
 }
 
-/// A thousand texts, the same ones on every run; 1 of 7 versions is a pre-release.
+/// A thousand strings, the same ones on every run; 1 of 7 versions is a pre-release.
 fn texts(text: impl Fn(usize, String) -> String) -> Vec<String> {
     let version = |n: usize| {
         let pre = if n % 7 == 0 { format!("-beta.{}", n % 5) } else { String::new() };

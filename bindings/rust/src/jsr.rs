@@ -28,7 +28,7 @@ impl JsrPackageNvReference {
     }
 }
 
-/// The name of the export that a path in a JSR package means, such as `./mod.ts`; without a path, `.`.
+/// The export's name, such as `./mod.ts`, for a path in a JSR package; without a path it is `.`.
 pub fn normalized_export_name(sub_path: Option<&str>) -> Cow<'_, str> {
     own::export_name(sub_path)
 }

@@ -1,4 +1,5 @@
-//! What ranges have in common, exactly: the lowest version with a property, and whether one range contains another.
+//! Exact answers about ranges: the lowest version that one matches, that all match, or that only one of two matches, and whether two match
+//! the same versions.
 
 use crate::calls::{answer, failed, lines, message, text_or_message, with_text, INVALID_RANGE, NO, TAG, YES};
 use crate::externs::*;

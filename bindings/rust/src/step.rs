@@ -35,7 +35,7 @@ pub enum Base {
     Zero = 0,
     /// `1`.
     One = 1,
-    /// None, so that `-beta` comes before `-beta.0`.
+    /// No number: `beta` gives `-beta`, and the next pre-release after it is `-beta.0`.
     Nothing = 2,
 }
 
@@ -112,7 +112,7 @@ impl Version {
         coerced(text, which, false)
     }
 
-    /// The same version with the pre-release and the build that come right behind its numbers.
+    /// Like [`Version::coerce`], but the version also gets the pre-release and the build that come right behind its numbers.
     ///
     /// ```
     /// use deno_semver_proved::{Coerced, Version};
