@@ -24,7 +24,7 @@ SHARED = {"libc.so.6"}
 METADATA = f"""Metadata-Version: 2.4
 Name: deno-semver
 Version: {VERSION}
-Summary: Versions and version ranges of npm and JSR packages, parsed and matched as Deno does, by verified code
+Summary: Versions and version ranges of npm and JSR packages, parsed and matched as Deno does, by proved code
 Project-URL: Repository, https://nuscheddia.example/deno_semver
 License-Expression: MIT AND Unicode-3.0
 License-File: LICENSE

@@ -1,5 +1,5 @@
 /**
- * node-semver's functions and classes over the verified library. NODE_SEMVER.md, which is in the package, says where their answers differ
+ * node-semver's functions and classes over the proved library. NODE_SEMVER.md, which is in the package, says where their answers differ
  * from node-semver's.
  *
  * Where node-semver returns null or false for an invalid string, so does this module.
@@ -83,7 +83,7 @@ export class Comparator {
   options: Options;
   /** Whether `loose` was given. */
   loose: boolean;
-  /** Whether the version matches, by the order of versions alone. */
+  /** Whether the version matches. Only the order of versions counts, and not npm's rule for pre-releases. */
   test(version: string | SemVer | symbol): boolean;
   /** Whether a version matches both comparators. */
   intersects(comparator: Comparator, options?: Loose): boolean;
@@ -195,7 +195,7 @@ export function outside(version: string | SemVer, range: string | Range | Compar
 export function gtr(version: string | SemVer, range: string | Range | Comparator, options?: Loose): boolean;
 /** {@link outside} with `<`. */
 export function ltr(version: string | SemVer, range: string | Range | Comparator, options?: Loose): boolean;
-/** A range that matches the same versions of this list as the given range, if its string is shorter; else the given range. */
+/** Looks for a shorter range that matches the same versions of this list. Returns it, or the given range if there is none. */
 export function simplifyRange<T extends string | Range>(versions: readonly string[], range: T, options?: Loose): string | T;
 
 /** Which next version to make, or what changed between two versions. */

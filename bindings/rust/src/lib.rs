@@ -1,6 +1,6 @@
 // SPDX-License-Identifier: MIT
 
-//! Versions and version requirements of npm and JSR packages. The types have the same paths as in the crate `deno_semver`; verified code
+//! Versions and version requirements of npm and JSR packages. The types have the same paths as in the crate `deno_semver`; proved code
 //! gives the answers. A *requirement* is a range or a tag; other pages call it a range.
 //!
 //! ```
