@@ -177,7 +177,7 @@ int32_t semver_normal(uint32_t grammar, const char *range, size_t range_len,
 /* Whether the range is a tag: NO or YES. */
 int32_t semver_is_tag(uint32_t grammar, const char *range, size_t range_len, char *out, size_t out_len, size_t *needed);
 
-/* The version as it is displayed: YES. */
+/* The version as a string, such as 1.2.3 for v1.2.3: YES. */
 int32_t semver_version(const char *version, size_t version_len, char *out, size_t out_len, size_t *needed);
 
 /* The sort key of the version: YES. It is printable ASCII without whitespace. The bytes of two keys compare as semver_compare compares
@@ -295,7 +295,7 @@ int32_t semver_req_read(uint32_t grammar, const char *text, size_t text_len, sem
 int32_t semver_package_read(uint32_t grammar, const char *text, size_t text_len, semver_req *handle,
                             char *out, size_t out_len, size_t *needed);
 
-/* Parses a version into a handle, as semver_req_read does a range: YES, with the version as it is displayed. */
+/* Parses a version into a handle, as semver_req_read does a range: YES, with the version as a string. */
 int32_t semver_version_read(const char *text, size_t text_len, semver_ver *handle,
                             char *out, size_t out_len, size_t *needed);
 
@@ -330,7 +330,7 @@ int32_t semver_req_order(const semver_req *one, const semver_req *other);
 /* The string that the range was parsed from: YES. npm's grammar trims it. */
 int32_t semver_req_text(const semver_req *handle, char *out, size_t out_len, size_t *needed);
 
-/* semver_req_normal writes the canonical form of the range, and semver_version_text the version as it is displayed: YES. */
+/* semver_req_normal writes the canonical form of the range, and semver_version_text the version as a string: YES. */
 int32_t semver_req_normal(const semver_req *handle, char *out, size_t out_len, size_t *needed);
 int32_t semver_version_text(const semver_ver *handle, char *out, size_t out_len, size_t *needed);
 
