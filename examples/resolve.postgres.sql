@@ -1,4 +1,4 @@
--- Which version does each dependency get? psql --tuples-only --no-align --quiet -f resolve.postgres.sql, in a database with the extension
+-- Which version does each dependency get? Run psql --tuples-only --no-align --quiet -f resolve.postgres.sql, in a database with the extension
 BEGIN;
 CREATE TABLE versions (package text, version semver, PRIMARY KEY (package, version));
 INSERT INTO versions VALUES ('router', '2.0.4'), ('router', '2.1.0'), ('router', '2.3.1'), ('router', '3.0.0'),

@@ -1,4 +1,4 @@
--- Which version does each dependency get? sqlite3 :memory: '.load mod_deno_semver' '.read resolve.sqlite.sql'
+-- Which version does each dependency get? Run sqlite3 :memory: '.load mod_deno_semver' '.read resolve.sqlite.sql'
 CREATE TABLE versions (package TEXT, version TEXT);
 INSERT INTO versions VALUES ('router', '2.0.4'), ('router', '2.1.0'), ('router', '2.3.1'), ('router', '3.0.0'),
     ('log', '1.2.0'), ('log', '1.3.0-beta.2');

@@ -335,8 +335,8 @@ class Range:
     def scans(self, *, pre_releases: bool = False) -> List[Scan]:
         """What the range matches, as scans of an index on `Version.sort_key`.
 
-        A release matches exactly if its key is in a scan of releases, and a pre-release exactly if its key is in a scan of pre-releases. The
-        scans of releases come first. Then come those of pre-releases. Both are in ascending order, with a gap between one scan and the next.
+        A release matches exactly if its key is in a scan of releases, and a pre-release exactly if its key is in a scan of pre-releases.
+        Scans of releases come first, then scans of pre-releases, each in ascending order, with a gap between one scan and the next.
 
         >>> Range("^1.2").scans()
         [Scan(is_pre=False, low='A1A2A0~', high='A2A0A0~')]

@@ -172,8 +172,8 @@ impl VersionReq {
 
     /// What matches, as scans of an index on [`Version::sort_key`], by npm's rule for pre-releases or without it; none if this is a tag.
     ///
-    /// A release matches exactly if its key is in a scan of releases, and a pre-release exactly if its key is in a scan of pre-releases. The
-    /// scans of releases come first. Then come those of pre-releases. Both are in ascending order, with a gap between one scan and the next.
+    /// A release matches exactly if its key is in a scan of releases, and a pre-release exactly if its key is in a scan of pre-releases.
+    /// Scans of releases come first, then scans of pre-releases, each in ascending order, with a gap between one scan and the next.
     ///
     /// ```
     /// # use deno_semver_proved::{PreRelease, VersionReq};
