@@ -163,7 +163,7 @@ fn last_run(alloc: Global, parts: Parts, text: &str) -> Result<Option<Run>, Allo
 /// and from the right the one that ends last. A number may have leading zeros; one above 18446744073709551615 belongs to no
 /// version.
 ///
-/// Fails only out of memory, and never with `Parts::Numbers`.
+/// Fails only out of memory.
 pub fn coerce(
     alloc: Global,
     text: &str,
