@@ -1,10 +1,10 @@
 #!/usr/bin/env python3
-"""Writes docs/CALLS.md from calls.tsv: what each call is named in each language, in `ranges` and in node-semver.
+"""Writes docs/CALLS.md from calls.tsv: which call answers a question in each language, in `ranges` and in node-semver.
 
     bindings/calls.py [--check]
 
 Each name must be one that the language has, and each call of C, function of Python and JavaScript, and command of `ranges` must stand in a
-row; what differs is printed, and the status is 1 then. With --check nothing is written, and a page that is stale is reported as well."""
+row, or in OTHERS, which the page lists; what differs is printed, and the status is 1 then. With --check nothing is written, and a page that is stale is reported as well."""
 import pathlib
 import re
 import sys
@@ -12,13 +12,19 @@ import sys
 HERE = pathlib.Path(__file__).resolve().parent
 TOP = HERE.parent
 PAGE = TOP / "docs/CALLS.md"
-HEAD = """# Every call
+HEAD = """# Which call answers which question
 
-What each call is named, in each language, in `ranges` and in node-semver. A call of C begins with `semver_`; those that begin with `req_`, `version_`
-or `list_` ask what is held. A name with a dot is a method. `bindings/calls.py` writes this page.
+Each row has a question, and the calls that answer it in each language, in `ranges` and in node-semver. Put `semver_` before a name of C.
+`scan`, `scans_read`, `version_compare`, `version_order`, `version_key`, and the calls of C that begin with `req_` or `list_`, take handles.
+A name with a dot is a method. `bindings/calls.py` writes this page.
+
+The table has every call of C, every function of Python and of JavaScript, and every command of `ranges`, except these:
+
+%s
+Of Rust, of node-semver and of methods, the table has only those that answer one of its questions.
 
 """
-# Calls of C that ask nothing of a value, and commands that answer by another one's question.
+# Calls of C that ask no question of the table, and commands that the page leaves out; the page lists both.
 OTHERS = {
     "C": {"api", "req_read", "version_read", "list_read", "req_free", "version_free", "list_free", "scans_free", "req_text", "req_equal", "req_order", "version_text"},
     "Python": set(),
@@ -76,6 +82,11 @@ def faults(rows):
         yield from (f"no row has {it} of {language}" for it in sorted(all_of - stated[language] - OTHERS[language]))
 
 
+def left_out():
+    """The list of the names that stand in no row."""
+    return "".join(f"- of {'`ranges`' if language == 'ranges' else language}: {', '.join(f'`{it}`' for it in sorted(names))}\n" for language, names in OTHERS.items() if names)
+
+
 def table(heads, rows):
     lines = ["| " + " | ".join(heads) + " |", "|" + "---|" * len(heads)]
     for row in rows:
@@ -88,7 +99,7 @@ def main():
     heads, *lines = [line.split("\t") for line in (HERE / "calls.tsv").read_text().splitlines()]
     rows = [dict(zip(heads, [line[0], *([it for it in cell.split(", ") if it] for cell in line[1:])])) for line in lines]
     problems = list(faults(rows))
-    made = HEAD + table(heads, rows)
+    made = HEAD % left_out() + table(heads, rows)
     if sys.argv[1:] != ["--check"]:
         PAGE.write_text(made)
     elif not PAGE.exists() or PAGE.read_text() != made:
