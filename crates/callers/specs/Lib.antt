@@ -3,4 +3,5 @@ pub mod ImportMap
 pub mod Lockfile
 pub mod Packages
 pub mod References
+pub mod Releasing
 pub mod Stored

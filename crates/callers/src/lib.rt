@@ -7,6 +7,7 @@ pub mod import_map;
 pub mod lockfile;
 pub mod overlap;
 pub mod packages;
+pub mod releasing;
 pub mod requirements;
 pub mod sort_keys;
 pub mod stored;
