@@ -25,7 +25,7 @@ SEPARATORS = (" ", " || ", "||", ", ", " - ")
 
 def rows_of(name):
     """The versions that a table's answers were taken of, and its rows: texts with answers."""
-    versions, *rows = map(json.loads, (HERE / f"{name}.jsonl").read_text().splitlines())
+    versions, *rows = map(json.loads, (HERE / f"{name}.jsonl").read_text().rstrip("\n").split("\n"))
     return versions, dict(rows)
 
 

@@ -57,6 +57,8 @@ fn refuse<O: Write, E: Write>(
     }
     let message = if range.contains(',') {
         "npm refuses `,`: write a space"
+    } else if range.contains('\u{85}') {
+        "npm refuses U+0085: JavaScript doesn't take it for whitespace"
     } else if reading == Reading::TooLarge {
         "npm refuses a number above 9007199254740991, and a version of more than 256 characters"
     } else if has_left_out(pieces) {

@@ -355,6 +355,11 @@ enum Word {
     Ignored,
 }
 
+// Whether JavaScript, and so npm, takes the character for whitespace.
+fn is_space(c: char) -> bool {
+    c == '\u{feff}' || c.is_whitespace() && c != '\u{85}'
+}
+
 fn is_wildcard(text: &str) -> bool {
     matches!(text, "x" | "X" | "*")
 }
@@ -591,16 +596,15 @@ impl<'t> Alternative<'t> {
 
 // The versions at both ends of a text with a hyphen between them, if it has such.
 fn ends_of(text: &str) -> Option<(Word, Word)> {
-    let mut words = text.split_whitespace();
-    let from = words.next()?;
-    if words.next()? != "-" {
+    let (from, rest) = text.split_once(is_space)?;
+    let (hyphen, to) = rest.trim_start_matches(is_space).split_once(is_space)?;
+    if hyphen != "-" {
         return None;
     }
-    let (from, to) = (
-        version(from, Form::Partial),
-        version(words.next()?, Form::Partial),
-    );
-    if words.next().is_some() || from == Word::Ignored || to == Word::Ignored {
+    // A version with whitespace in it is none.
+    let to = to.trim_start_matches(is_space);
+    let (from, to) = (version(from, Form::Partial), version(to, Form::Partial));
+    if from == Word::Ignored || to == Word::Ignored {
         None
     } else {
         Some((from, to))
@@ -608,7 +612,7 @@ fn ends_of(text: &str) -> Option<(Word, Word)> {
 }
 
 fn alternative_of(text: &str) -> Alternative<'_> {
-    let text = text.trim();
+    let text = text.trim_matches(is_space);
     let mut all = Alternative {
         is_kept: text.is_empty(),
         is_too_large: false,
@@ -621,7 +625,10 @@ fn alternative_of(text: &str) -> Alternative<'_> {
         return all;
     }
     let mut waiting: Option<Operator<'_>> = None;
-    for word in text.split_whitespace() {
+    for word in text.split(is_space) {
+        if word.is_empty() {
+            continue;
+        }
         let operator = match waiting.take() {
             Some(operator) if !is_joined(operator.sign, word) => {
                 all.take(operator.word, Word::Ignored);
@@ -656,11 +663,11 @@ pub fn read_range(text: &str) -> Read<'_> {
             read.reading = Reading::Range;
             read.ignored = read.ignored.or(alternative.ignored);
         } else {
-            read.dropped = read.dropped.or(Some(part.trim()));
+            read.dropped = read.dropped.or(Some(part.trim_matches(is_space)));
         }
     }
     if is_too_large || read.reading == Reading::Refused {
-        read.reading = if is_url_text(text.trim()) {
+        read.reading = if is_url_text(text.trim_matches(is_space)) {
             Reading::Tag
         } else if is_too_large {
             Reading::TooLarge
@@ -713,5 +720,5 @@ pub fn is_reference(text: &str) -> bool {
 
 /// Whether npm takes a text as a version.
 pub fn is_version(text: &str) -> bool {
-    version(text.trim(), Form::Whole) == Word::Comparator
+    version(text.trim_matches(is_space), Form::Whole) == Word::Comparator
 }
