@@ -37,6 +37,15 @@ use terminal::shown::{Quoted, Shown, part};
 
 // ---- ranges
 
+// What is too large for npm in a range.
+fn excess(range: &str) -> &'static str {
+    if npm::has_long_word(range) {
+        "npm refuses a version of more than 256 characters"
+    } else {
+        "npm refuses a number above 9007199254740991"
+    }
+}
+
 // Reports that npm refuses a range of this grammar, and why.
 fn refuse<O: Write, E: Write>(
     console: &mut Console<O, E>,
@@ -60,7 +69,7 @@ fn refuse<O: Write, E: Write>(
     } else if range.contains('\u{85}') {
         "npm refuses U+0085: JavaScript doesn't take it for whitespace"
     } else if reading == Reading::TooLarge {
-        "npm refuses a number above 9007199254740991, and a version of more than 256 characters"
+        excess(range)
     } else if has_left_out(pieces) {
         return Ok(());
     } else {
@@ -275,9 +284,12 @@ fn check_tag<O: Write, E: Write>(
 ) -> Result<(), Stop> {
     if entry.kind == Kind::Dependency {
         match npm::read_range(text).reading {
-            Reading::Refused | Reading::TooLarge => {
+            Reading::Refused => {
                 let message = "npm refuses the tag: it has a character that URLs don't";
                 return report.add(console, entry, Finding::new(Cause::Refused, message));
+            }
+            Reading::TooLarge => {
+                return report.add(console, entry, Finding::new(Cause::Refused, excess(text)));
             }
             Reading::Range if text.trim_end().ends_with("||") => {
                 return report.add(console, entry, Finding::by(Rule::NpmDiffers, EMPTY_AT_END));

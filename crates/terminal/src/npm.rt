@@ -678,6 +678,16 @@ pub fn read_range(text: &str) -> Read<'_> {
     read
 }
 
+/// Whether a version in the text is longer than npm's are.
+pub fn has_long_word(text: &str) -> bool {
+    for word in text.split(is_space) {
+        if word.len() > LONG {
+            return true;
+        }
+    }
+    false
+}
+
 /// A comparator with a number behind a wildcard, which npm drops, and what npm reads in its place.
 pub fn number_behind_wildcard(text: &str) -> Option<(&str, &str)> {
     for word in text.split_whitespace() {
