@@ -19,7 +19,7 @@ HERE = pathlib.Path(__file__).resolve().parent
 RANGES = TOP / "crates/ranges/out/ranges"
 TABLES = ("specifiers", "manifests")
 # Ranges to rewrite: each comparator, or nothing, and another, with each separator between them.
-COMPARATORS = ("1", "^1.2", "~1.2.3", ">=1.2", "<2", ">1.2.x", "<=2.1.0", "1.x.3", "^0.0.3", "2.0.0-beta", ">=1.2.0-rc.1", "<0.0.0-beta", "*", "")
+COMPARATORS = ("1", "^1.2", "~1.2.3", ">=1.2", "<2", ">1.2.x", "<=2.1.0", "1.x.3", "^0.0.3", "2.0.0-beta", ">=2.0.0-beta", ">=1.2.0-rc.1", "<0.0.0-beta", "*", "")
 SEPARATORS = (" ", " || ", "||", ", ", " - ")
 
 

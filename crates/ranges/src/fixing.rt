@@ -5,9 +5,9 @@ use crate::diff::print_diff;
 use crate::rules::{Level, Levels, Rule};
 use crate::walking::{Group, read_file};
 use answers::asking::Problem;
-use answers::explained::{Explanation, Meaning, Piece, explain};
+use answers::explained::{Explanation, Matches, Meaning, Piece, explain};
 use answers::reading;
-use deno_semver::PreRelease;
+use deno_semver::{PreRelease, RangeBound};
 use package_answers::references::read_reference;
 use semver_req::common::values::Flavour;
 use semver_req::error_places::pieces::invalid_pieces_behind;
@@ -161,14 +161,28 @@ fn has_dropped_number(range: &str) -> bool {
     range.split('|').any(|alternative| number_behind_wildcard(alternative).is_some())
 }
 
-// Whether each alternative is a range that some version matches. A pre-release among several comparators is left out, since npm ends `^1`
-// below all pre-releases of 2.0.0, and Deno doesn't.
+// Whether two bounds have the same three numbers.
+fn have_same_numbers(one: &RangeBound, other: &RangeBound) -> bool {
+    let (RangeBound::Version(one), RangeBound::Version(other)) = (one, other) else {
+        return false;
+    };
+    let (one, other) = (&one.version, &other.version);
+    one.major == other.major && one.minor == other.minor && one.patch == other.patch
+}
+
+// Whether npm reads several comparators as Deno does. npm ends `^1` below all pre-releases of 2.0.0, and Deno doesn't. That counts only if
+// a bound is a pre-release of 2.0.0.
+fn has_same_end(matches: &Matches) -> bool {
+    let (start, end) = (&matches.range.start, &matches.range.end);
+    !matches.pre_of_end && !(matches.pre_of_start && have_same_numbers(start, end))
+}
+
+// Whether each alternative is a range that some version matches, and npm reads it as Deno does.
 fn are_alike(pieces: &[Piece]) -> bool {
     pieces.iter().all(|piece| match &piece.meaning {
         Meaning::Range(matches) => {
-            let has_pre = matches.pre_of_start || matches.pre_of_end;
             let has_several = piece.text.as_str().split_whitespace().count() > 1;
-            matches.lowest.is_some() && !(has_pre && has_several)
+            matches.lowest.is_some() && (!has_several || has_same_end(matches))
         }
         Meaning::LeftOut(_) => false,
     })
