@@ -98,8 +98,8 @@ fn is_release_of(one: &Piece, other: &Piece) -> bool {
     is_same && operator == other_operator && one.pre.is_empty() && !other.pre.is_empty()
 }
 
-// Whether the alternative is a range, not empty, that some version matches.
-fn has_match(piece: &Piece) -> bool {
+/// Whether the alternative is a range, not empty, that some version matches.
+pub fn has_match(piece: &Piece) -> bool {
     match &piece.meaning {
         Meaning::Range(matches) => matches.lowest.is_some()
             && !piece.text.as_str().trim().is_empty(),

@@ -1,15 +1,15 @@
 //! `ranges check`: the ranges of package.json, deno.json, import maps and lists of ranges.
 
-use crate::advice::{bound_of_pre_releases, warnings};
+use crate::advice::{bound_of_pre_releases, has_match, warnings};
 use crate::errors::{errors_at_end, errors_of};
 use crate::explaining::has_left_out;
 use crate::findings::{Cause, Finding, Format, Position, Report};
 use crate::fixing::{
-    Rewritten, apply, is_tag, pieces_of, print_diffs, rewrite, set_above, write_all,
+    Rewritten, apply, is_rewritten, is_tag, pieces_of, print_diffs, rewrite, set_above, write_all,
 };
 use crate::known::{Known, known_of};
 use crate::overriding::Overrides;
-use crate::rules::{Levels, Rule};
+use crate::rules::{Level, Levels, Rule};
 use crate::walking::{Group, Manifests, find, path_in_repository, read_file};
 use answers::asking::{Answer, Problem};
 use answers::explained::{Explanation, Meaning, Piece, explain};
@@ -220,10 +220,30 @@ fn warn<O: Write, E: Write>(
         report.tell(console, entry, Rule::PreReleaseBound, message)?;
     }
     if range.trim() != normal {
-        let message = format!(in alloc; "the canonical form is `{normal}`");
-        report.tell(console, entry, Rule::NotCanonical, message)?;
+        report_form(console, report, entry, pieces, normal)?;
     }
     Ok(())
+}
+
+// Reports that a range isn't in its canonical form, and why --fix leaves it so.
+fn report_form<O: Write, E: Write>(
+    console: &mut Console<O, E>,
+    report: &mut Report<'_>,
+    entry: &Entry,
+    pieces: &[Piece],
+    normal: &str,
+) -> Result<(), Stop> {
+    let alloc = console.alloc;
+    if report.levels.of(Rule::NotCanonical) == Level::Off {
+        return Ok(());
+    }
+    let why = if pieces.iter().all(has_match) && !is_rewritten(alloc, &report.levels, entry)? {
+        "; --fix leaves it alone, since npm may read the two differently"
+    } else {
+        ""
+    };
+    let message = format!(in alloc; "the canonical form is `{normal}`{why}");
+    report.tell(console, entry, Rule::NotCanonical, message)
 }
 
 // Reports a text that isn't a range of this grammar. npm may take it for one, or for a tag.

@@ -297,6 +297,14 @@ fn better(
     }
 }
 
+/// Whether the range of an entry is rewritten.
+pub fn is_rewritten(alloc: Global, levels: &Levels, entry: &Entry) -> Result<bool, Stop> {
+    let Some(found) = found_in(alloc, entry)? else {
+        return Ok(false);
+    };
+    Ok(better(alloc, levels, entry.kind, found)?.is_some())
+}
+
 // Whether YAML takes a text without quotes for a string.
 fn is_plain(text: &str) -> bool {
     text.starts_with(['^', '~', '<'].as_slice())
