@@ -22,7 +22,7 @@ use terminal::console::{Console, Status, Stop, print_line};
 use terminal::entry::Entry;
 use terminal::hints::behind_protocol;
 use terminal::manifest::entries;
-use terminal::npm::{Source, renamed, source_of};
+use terminal::npm::{Reading, Source, read_range, renamed, source_of, without_ignored};
 use terminal::sections::Kind;
 use terminal::shown::{Quoted, Shown};
 
@@ -169,6 +169,20 @@ fn asked_by(alloc: Global, catalogs: &Catalogs, entry: &Entry) -> Result<Option<
     }
 }
 
+// The range as npm reads it, which ignores words that aren't comparators.
+fn text_read(alloc: Global, asked: &Request) -> Result<String, AllocError> {
+    let text = asked.range.as_str();
+    let read = read_range(text);
+    let is_loose = read.reading == Reading::Range && read.ignored.is_some();
+    if is_loose
+        && asked.flavour == Flavour::Npm
+        && let Some(kept) = without_ignored(alloc, text)?
+    {
+        return Ok(kept);
+    }
+    String::from_str(alloc, text)
+}
+
 // The range that a package is asked for by, or why that is left out.
 fn read(
     alloc: Global,
@@ -177,7 +191,8 @@ fn read(
     if asked.is_missing {
         return Ok((None, Some("the catalog has no entry for it")));
     }
-    match range(alloc, asked.flavour, 0, asked.range.as_str()) {
+    let text = text_read(alloc, asked)?;
+    match range(alloc, asked.flavour, 0, text.as_str()) {
         Ok(req) => {
             if req.tag().is_some() {
                 drop(req);

@@ -678,6 +678,29 @@ pub fn read_range(text: &str) -> Read<'_> {
     read
 }
 
+/// The range without the words that npm ignores, and without the alternatives that it leaves out; none if an operator ends a word there.
+pub fn without_ignored(alloc: Global, text: &str) -> Result<Option<String>, AllocError> {
+    let mut kept = String::new(alloc);
+    let mut separator = "";
+    for part in text.split("||") {
+        if !alternative_of(part).is_kept {
+            continue;
+        }
+        kept.push_str(separator)?;
+        separator = "||";
+        for word in part.split(is_space) {
+            if !split_operator(word).1.is_empty() {
+                return Ok(None);
+            }
+            if word_of("", word) != Word::Ignored {
+                kept.push_str(word)?;
+                kept.push(' ')?;
+            }
+        }
+    }
+    Ok(Some(kept))
+}
+
 /// Whether a version in the text is longer than npm's are.
 pub fn has_long_word(text: &str) -> bool {
     for word in text.split(is_space) {
