@@ -7,7 +7,7 @@ use crate::findings::{Cause, Finding, Format, Position, Report};
 use crate::fixing::{
     Rewritten, apply, is_rewritten, is_tag, pieces_of, print_diffs, rewrite, set_above, write_all,
 };
-use crate::known::{Known, known_of};
+use crate::known::{Known, is_of_npm, known_of};
 use crate::overriding::Overrides;
 use crate::rules::{Level, Levels, Rule};
 use crate::walking::{Group, Manifests, find, path_in_repository, read_file};
@@ -670,12 +670,6 @@ fn check_sections<O: Write, E: Write>(
     Ok(())
 }
 
-// Whether the entries say that npm is the package manager; none if they don't say.
-fn is_of_npm(entries: &[Entry]) -> Option<bool> {
-    let manager = entries.iter().find(|entry| entry.kind == Kind::Manager)?;
-    Some(manager.text.as_str().starts_with("npm@"))
-}
-
 // What entries say of one another.
 #[derive(Drop)]
 struct Names<'e> {
@@ -686,8 +680,10 @@ struct Names<'e> {
     overrides: Overrides<'e>,
     /// Whether the workspaces have a list of patterns.
     has_packages: bool,
-    /// Whether the file says that npm is its package manager; none if it doesn't say.
+    /// Whether npm is the package manager; none if nothing says so.
     is_of_npm: Option<bool>,
+    /// Whether `packageManager` says so, and not a lockfile.
+    is_named: bool,
 }
 
 // What is checked: a file, and what holds for it.
@@ -716,6 +712,15 @@ impl Checked<'_> {
     }
 }
 
+// What is said of a protocol that npm doesn't know.
+fn foreign(is_named: bool) -> &'static str {
+    if is_named {
+        "npm doesn't know this protocol, and `packageManager` is npm"
+    } else {
+        "npm doesn't know this protocol, and the lockfile is npm's"
+    }
+}
+
 // Checks what an entry of dependencies says with others, and with what is known of the workspace.
 fn check_relations<'e, O: Write, E: Write>(
     console: &mut Console<O, E>,
@@ -732,12 +737,12 @@ fn check_relations<'e, O: Write, E: Write>(
             }
             // npm links the workspaces of a root, whatever it asks of them.
             let is_linked = file.is_root && file.known.has_workspace(entry.name.as_str());
-            let is_foreign = names.is_of_npm == Some(true) && npm::is_foreign(entry.text.as_str());
-            if is_foreign && !is_linked {
-                let message = "npm doesn't know this protocol, and `packageManager` is npm";
-                report.add(console, entry, Finding::new(Cause::Refused, message))?;
-            }
-            if let Some(message) = file.known.refusal(console.alloc, entry)? {
+            if names.is_of_npm == Some(true) {
+                if npm::is_foreign(entry.text.as_str()) && !is_linked {
+                    let message = foreign(names.is_named);
+                    report.add(console, entry, Finding::new(Cause::Refused, message))?;
+                }
+            } else if let Some(message) = file.known.refusal(console.alloc, entry)? {
                 let finding = Finding::new(Cause::Refused, message.as_str());
                 report.add(console, entry, finding)?;
             }
@@ -882,12 +887,14 @@ fn check_entries<O: Write, E: Write>(
     file: Checked<'_>,
     entries: &[Entry],
 ) -> Result<(), Stop> {
+    let named = is_of_npm(entries).or(file.known.named(file.is_root));
     let mut names = Names {
         asked: HashMap::new(console.alloc),
         peers: HashSet::new(console.alloc),
         overrides: Overrides::of(console.alloc, entries)?,
         has_packages: entries.iter().any(|entry| entry.kind == Kind::Packages),
-        is_of_npm: is_of_npm(entries),
+        is_of_npm: named.or(file.known.locked(file.is_root)),
+        is_named: named.is_some(),
     };
     for entry in entries
         .iter()

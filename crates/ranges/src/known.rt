@@ -1,7 +1,7 @@
 //! What the files of a workspace say of one another: the names and versions of its packages, and pnpm's catalogs.
 
 use crate::catalogs::{Catalogs, catalog_name, resolved, shelve};
-use crate::walking::Group;
+use crate::walking::{Group, split_path};
 use answers::asking::{Answer, Problem};
 use answers::questions::matches;
 use deno_semver::PreRelease;
@@ -41,6 +41,12 @@ pub struct Known {
     names: BTreeMap<String, usize>,
     /// Whether all of them are known.
     is_whole: bool,
+    /// Whether the files are all of the workspace.
+    is_of_members: bool,
+    /// Whether `packageManager` of the root names npm; none if it names none.
+    named: Option<bool>,
+    /// Whether the lockfile beside the root's manifest is npm's; none if there is no lockfile, or those of several package managers.
+    locked: Option<bool>,
 }
 
 // The text of the first entry of a kind, if there is one.
@@ -67,6 +73,27 @@ impl Known {
             versions: BTreeMap::new(alloc),
             names: BTreeMap::new(alloc),
             is_whole: false,
+            is_of_members: false,
+            named: None,
+            locked: None,
+        }
+    }
+
+    /// Whether `packageManager` of the root names npm, if that counts for a file.
+    pub fn named(&self, is_root: bool) -> Option<bool> {
+        if is_root || self.is_of_members {
+            self.named
+        } else {
+            None
+        }
+    }
+
+    /// Whether the lockfile beside the root's manifest is npm's, if that counts for a file.
+    pub fn locked(&self, is_root: bool) -> Option<bool> {
+        if is_root || self.is_of_members {
+            self.locked
+        } else {
+            None
         }
     }
 
@@ -195,15 +222,76 @@ fn is_pattern(entry: &Entry) -> bool {
     entry.kind == Kind::Workspace && entry.section == "workspaces"
 }
 
+// The lockfiles of package managers and pnpm's list of workspaces, each with its package manager.
+const LOCKFILES: [[&str; 2]; 7] = [
+    ["package-lock.json", "npm"],
+    ["npm-shrinkwrap.json", "npm"],
+    ["pnpm-lock.yaml", "pnpm"],
+    ["pnpm-workspace.yaml", "pnpm"],
+    ["yarn.lock", "yarn"],
+    ["bun.lock", "bun"],
+    ["bun.lockb", "bun"],
+];
+
+// Whether npm is the one package manager that has a lockfile in a folder; none if no one has, or several have.
+fn is_locked_by_npm<R: Files + AllocGlobal>(
+    rt: &R,
+    folder: &str,
+) -> Result<Option<bool>, AllocError> {
+    let mut found = "";
+    for [name, manager] in LOCKFILES {
+        let path = format!(in rt.alloc(); "{folder}{name}")?;
+        if !fs::exists(rt, path.as_str()).unwrap_or(false) {
+            continue;
+        }
+        if !found.is_empty() && found != manager {
+            return Ok(None);
+        }
+        found = manager;
+    }
+    Ok(if found.is_empty() {
+        None
+    } else {
+        Some(found == "npm")
+    })
+}
+
+/// Whether the entries say that npm is the package manager; none if they don't say.
+pub fn is_of_npm(entries: &[Entry]) -> Option<bool> {
+    let manager = text_of(entries, Kind::Manager)?;
+    Some(manager.starts_with("npm@"))
+}
+
+// Learns which package manager installs the root of a group.
+fn learn_manager<R: Files + AllocGlobal>(
+    rt: &R,
+    group: &Group,
+    known: &mut Known,
+) -> Result<(), Stop> {
+    let count = group.root_count();
+    for path in group.above.iter().chain(group.paths.iter().take(count)) {
+        let (folder, name) = split_path(path.as_str());
+        if name == "package.json" {
+            known.named = is_of_npm(entries_of(rt, path.as_str())?.as_slice());
+            known.locked = is_locked_by_npm(rt, folder)?;
+            break;
+        }
+    }
+    Ok(())
+}
+
 /// What the manifests of a group and those further up say of one another, if they are of a workspace.
 pub fn known_of<R: Files + AllocGlobal>(rt: &R, group: &Group) -> Result<Known, Stop> {
     let alloc = rt.alloc();
     let mut known = Known::new(alloc);
+    learn_manager(rt, group, &mut known)?;
     known.workspace = workspace_of(rt, group)?;
     if known.workspace == Workspace::None {
         return Ok(known);
     }
     known.is_whole = group.is_whole;
+    // A file of a workspace was given, or all of it.
+    known.is_of_members = group.is_whole || !group.above.is_empty() && group.own == 0;
     for path in group.above.iter() {
         known.learn(
             alloc,

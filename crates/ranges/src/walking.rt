@@ -47,6 +47,15 @@ pub struct Group {
 }
 
 impl Group {
+    /// How many of the manifests, the first, may be of the root of a workspace: they stand in no other, and in the folder itself if one was given.
+    pub fn root_count(&self) -> usize {
+        match (self.above.is_empty(), self.own) {
+            (false, _) => 0,
+            (true, 0) => self.paths.len(),
+            (true, own) => own,
+        }
+    }
+
     fn new(alloc: Global) -> Group {
         Group {
             paths: Vec::new(alloc),
@@ -732,8 +741,8 @@ fn normalized(alloc: Global, path: &str) -> Result<String, AllocError> {
     Ok(whole)
 }
 
-// The folder of a path, with what ends it, and the name.
-fn split_path(path: &str) -> (&str, &str) {
+/// The folder of a path, with what ends it, and the name.
+pub fn split_path(path: &str) -> (&str, &str) {
     let start = match path.rfind('/') {
         Some(slash) => slash.saturating_add(1),
         None => 0,
