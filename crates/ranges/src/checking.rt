@@ -560,7 +560,19 @@ fn check_conflict<'e, O: Write, E: Write>(
     report: &mut Report<'_>,
     entry: &'e Entry,
     overrides: &mut Overrides<'e>,
+    known: &Known,
 ) -> Result<(), Stop> {
+    let (name, _) = name_and_range(entry.text.as_str());
+    if known.is_linked(name) {
+        if !overrides.moves_workspace(console.alloc, entry)? {
+            return Ok(());
+        }
+        let message = format!(in console.alloc;
+            "npm refuses it: Override for {name} conflicts with direct dependency, since a workspace has this name"
+        )?;
+        let finding = Finding::new(Cause::Refused, message.as_str());
+        return report.add(console, entry, finding);
+    }
     let Some(direct) = overrides.conflict(console.alloc, entry)? else {
         return Ok(());
     };
@@ -814,7 +826,7 @@ fn check_entry<'e, O: Write, E: Write>(
             // Bun takes another range, too; pnpm and yarn don't read npm's overrides.
             let is_asked = file.is_root && names.is_of_npm != Some(false);
             if is_asked && separator.is_empty() && entry.depth == 1 {
-                check_conflict(console, report, entry, &mut names.overrides)?;
+                check_conflict(console, report, entry, &mut names.overrides, file.known)?;
             }
             Ok(())
         }

@@ -97,6 +97,11 @@ impl Known {
         }
     }
 
+    /// Whether npm links a workspace with this name.
+    pub fn is_linked(&self, name: &str) -> bool {
+        self.is_whole && self.workspace == Workspace::Package && self.has_workspace(name)
+    }
+
     // Learns the name of the root, or of a workspace.
     fn learn_name(&mut self, alloc: Global, name: &str, is_root: bool) -> Result<(), AllocError> {
         let before = self.names.get(name).copied().unwrap_or(0);

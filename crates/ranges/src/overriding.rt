@@ -141,20 +141,50 @@ impl<'e> Overrides<'e> {
             return Ok(None);
         }
         let _ = self.taken.insert(name)?;
+        Ok(if self.differs(alloc, key, range, asked)? {
+            Some(direct)
+        } else {
+            None
+        })
+    }
+
+    // Whether a key with this range, which counts for what the manifest asks for, stands for something else.
+    fn differs(
+        &self,
+        alloc: Global,
+        key: &str,
+        range: &str,
+        asked: &str,
+    ) -> Result<bool, AllocError> {
         let value = match self.values.get(key) {
             Some(value) => value.text.as_str(),
             // npm takes the range of the key.
             None => range,
         };
         let Some(value) = self.meant(value) else {
-            return Ok(None);
+            return Ok(false);
         };
         let is_same = matches!(value, "" | "*") || value == asked;
         // npm asks again with the value, and takes the override back if the key doesn't count for that.
-        Ok(if is_same || !counts(alloc, range, value)? {
-            None
-        } else {
-            Some(direct)
-        })
+        Ok(!is_same && counts(alloc, range, value)?)
+    }
+
+    /// Whether this key asks for something else in place of the workspace that it names, which npm refuses.
+    pub fn moves_workspace(&mut self, alloc: Global, entry: &'e Entry) -> Result<bool, AllocError> {
+        let key = entry.text.as_str();
+        let (name, range) = name_and_range(key);
+        if self.taken.contains(name) {
+            return Ok(false);
+        }
+        // npm asks for the folder of a workspace, for which every key counts.
+        let is_moved = self.differs(alloc, key, range, "file:")?;
+        let value = match self.values.get(key) {
+            Some(value) => value.text.as_str(),
+            None => range,
+        };
+        if is_moved || matches!(value, "" | "*") {
+            let _ = self.taken.insert(name)?;
+        }
+        Ok(is_moved)
     }
 }
