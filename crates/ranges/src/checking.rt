@@ -844,7 +844,8 @@ fn check_entry<'e, O: Write, E: Write>(
         | Kind::Name
         | Kind::ImportMap
         | Kind::Level
-        | Kind::Setting => Ok(()),
+        | Kind::Setting
+        | Kind::OddSetting(_) => Ok(()),
     }
 }
 
@@ -876,6 +877,7 @@ fn set_levels<O: Write, E: Write>(
                 let message = "no such setting in `ranges`; there is `rules`";
                 Some(String::from_str(console.alloc, message)?)
             }
+            Kind::OddSetting(message) => Some(String::from_str(console.alloc, message)?),
             _ => None,
         };
         if let Some(message) = message {

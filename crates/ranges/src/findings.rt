@@ -318,6 +318,7 @@ fn has_text(entry: &Entry) -> bool {
         Kind::Mistake(_)
             | Kind::Odd(_)
             | Kind::OddSection(_)
+            | Kind::OddSetting(_)
             | Kind::Meta
             | Kind::Repeated
             | Kind::Setting

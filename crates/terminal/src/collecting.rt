@@ -51,7 +51,6 @@ fn misplaced(
         Some((Kind::Specifier, _)) => "expected a string, such as \"npm:preact@10\"",
         Some((Kind::Version, _)) => "expected a string, such as \"1.2.3\"",
         Some((Kind::Manager, _)) => "expected a string, such as \"npm@1.2.3\"",
-        Some((Kind::Level, _)) => "expected a string, such as \"off\"",
         Some((Kind::Workspace, _)) => "expected a string, such as \"packages/*\"",
         Some((_, "overrides")) if is_of_npm && shape != Shape::Null => {
             return Some(Kind::OddSection("not a string: npm passes over it"));
@@ -220,6 +219,17 @@ impl Collector {
         }
     }
 
+    // What is said of a value of another shape where the next value is, if that is a setting.
+    fn misplaced_here(&self, place: Place) -> Option<Kind> {
+        if self.first_key() == "ranges" {
+            return Some(Kind::OddSetting(match place.text {
+                Some(_) => "expected \"off\", \"warn\" or \"error\"",
+                None => "expected an object",
+            }));
+        }
+        None
+    }
+
     /// Adds an entry of the last key.
     pub fn add(
         &mut self,
@@ -288,14 +298,14 @@ impl Collector {
         let is_section = self.path.is_empty();
         let is_engines = is_section && self.key.as_deref() == Some("engines");
         let is_of_workspaces = self.is_workspaces() || self.first_key() == "workspaces";
-        let found = misplaced(
+        let found = self.misplaced_here(place).or(misplaced(
             shape,
             place,
             is_of_npm,
             is_section,
             is_engines,
             is_of_workspaces,
-        );
+        ));
         let kind = match found {
             Some(_)
                 if shape == Shape::Other && self.format == Format::Yaml && place.text.is_some() => {

@@ -25,6 +25,8 @@ pub enum Kind {
     Level,
     /// A key beside the levels of rules, which means nothing.
     Setting,
+    /// What stands in place of such a level or of an object of settings, as the message says.
+    OddSetting(&'static str),
     /// The name of the package.
     Name,
     /// A key of overrides: the name of a package, and perhaps a range behind an `@`. This text stands before another name, if one may follow.
