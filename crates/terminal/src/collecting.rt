@@ -219,15 +219,43 @@ impl Collector {
         }
     }
 
-    // What is said of a value of another shape where the next value is, if that is a setting.
-    fn misplaced_here(&self, place: Place) -> Option<Kind> {
+    // Whether the next value is an item of a list in place of a section of dependencies.
+    fn is_listed(&self) -> bool {
+        let is_item = self.format == Format::Package && self.path.len() == 1 && self.is_in_array();
+        is_item
+            && matches!(
+                self.first_key(),
+                "dependencies" | "devDependencies" | "optionalDependencies" | "peerDependencies"
+            )
+    }
+
+    // What is said of a value of another shape where the next value is, if that is a setting, or a section in which npm finds names.
+    fn misplaced_here(&self, shape: Shape, place: Place) -> Option<Kind> {
+        let key = self.key.as_deref().unwrap_or("");
+        let is_top = self.path.is_empty();
         if self.first_key() == "ranges" {
             return Some(Kind::OddSetting(match place.text {
                 Some(_) => "expected \"off\", \"warn\" or \"error\"",
                 None => "expected an object",
             }));
         }
-        None
+        let is_read = match key {
+            "dependencies" | "devDependencies" | "optionalDependencies" => true,
+            "peerDependencies" => shape == Shape::Array,
+            _ => false,
+        };
+        if !is_top || !is_read || self.format != Format::Package {
+            return None;
+        }
+        match shape {
+            Shape::Array => Some(Kind::OddSection(
+                "not an object: npm names its items `0`, `1` and so on",
+            )),
+            Shape::Text => Some(Kind::OddSection(
+                "not an object: npm names its characters `0`, `1` and so on",
+            )),
+            _ => None,
+        }
     }
 
     /// Adds an entry of the last key.
@@ -276,6 +304,11 @@ impl Collector {
         shape: Shape,
         index: usize,
     ) -> Result<Option<(Kind, &'static str)>, AllocError> {
+        if shape != Shape::Text && self.is_listed() {
+            let message = "npm refuses it: expected a string, such as \"^1.2\"";
+            self.add_kind(index, Kind::Mistake(message), "")?;
+            return Ok(None);
+        }
         let place = self.place();
         let is_there = match (shape, place.text) {
             (Shape::Text, Some(text)) => return Ok(Some(text)),
@@ -298,7 +331,7 @@ impl Collector {
         let is_section = self.path.is_empty();
         let is_engines = is_section && self.key.as_deref() == Some("engines");
         let is_of_workspaces = self.is_workspaces() || self.first_key() == "workspaces";
-        let found = self.misplaced_here(place).or(misplaced(
+        let found = self.misplaced_here(shape, place).or(misplaced(
             shape,
             place,
             is_of_npm,
