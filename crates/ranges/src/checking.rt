@@ -172,6 +172,22 @@ fn report_ignored<O: Write, E: Write>(
     report.add(console, entry, finding)
 }
 
+// Reports a version that looks like a range with a hyphen.
+fn warn_of_hyphen<O: Write, E: Write>(
+    console: &mut Console<O, E>,
+    report: &mut Report<'_>,
+    entry: &Entry,
+    range: &str,
+) -> Result<(), Stop> {
+    let Some((from, to)) = npm::version_as_pre_release(range) else {
+        return Ok(());
+    };
+    let message = format!(in console.alloc;
+        "one version, with the pre-release `{to}`: write `{from} - {to}` if you mean a range"
+    );
+    report.tell(console, entry, Rule::OddVersion, message)
+}
+
 // Reports what is odd about a range, given its alternatives and its canonical form.
 fn warn<O: Write, E: Write>(
     console: &mut Console<O, E>,
@@ -210,6 +226,9 @@ fn warn<O: Write, E: Write>(
     {
         let message = format!(in alloc; "node-semver refuses the zero of `{number}`, or drops it");
         report.tell(console, entry, Rule::NpmDiffers, message)?;
+    }
+    if entry.kind != Kind::Specifier {
+        warn_of_hyphen(console, report, entry, range)?;
     }
     let warnings = warnings(alloc, pieces)?;
     for (rule, warning) in warnings.iter() {

@@ -36,6 +36,7 @@ pub enum Rule {
     OddPath,
     OddSection,
     OddTag,
+    OddVersion,
     PreReleaseBound,
     UnmatchedWorkspace,
 }
@@ -50,7 +51,7 @@ pub struct About {
     pub help: &'static str,
 }
 
-const COUNT: usize = 17;
+const COUNT: usize = 18;
 
 /// All rules, by name.
 pub const RULES: [About; COUNT] = [
@@ -158,6 +159,13 @@ pub const RULES: [About; COUNT] = [
         level: Level::Warning,
         finds: "The tag is one that hardly any package has.",
         help: "Write the range or the tag that is meant: `1-2`, `LATEST` and `undefined` are tags to npm.",
+    },
+    About {
+        rule: Rule::OddVersion,
+        name: "odd-version",
+        level: Level::Warning,
+        finds: "The pre-release of a version is itself a higher version, as of `1.0.0-2.0.0`.",
+        help: "Write spaces around the `-` if you mean a range: `1.0.0 - 2.0.0`.",
     },
     About {
         rule: Rule::PreReleaseBound,

@@ -405,7 +405,7 @@ Examples:
   ranges check --exclude fixtures --files .
 
 Rules: any-zero, contained-alternative, disjoint-sections, dropped-alternative, duplicate-key, empty-alternative,
-ignored-comparator, no-match, npm-differs, odd-engine, odd-path, odd-section, odd-tag, unmatched-workspace. These are
+ignored-comparator, no-match, npm-differs, odd-engine, odd-path, odd-section, odd-tag, odd-version, unmatched-workspace. These are
 off unless you set them: meta-without-range, not-canonical, pre-release-bound. A rule at the level warn prints a warning.
 
 Exit status: 0 no error; 1 an error, or with --strict a warning, or --dry-run prints a change; 2 unknown arguments;

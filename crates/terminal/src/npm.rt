@@ -701,6 +701,49 @@ pub fn without_ignored(alloc: Global, text: &str) -> Result<Option<String>, Allo
     Ok(Some(kept))
 }
 
+// The number that a text is.
+fn number(text: &str) -> Option<u64> {
+    if !is_number(text) {
+        return None;
+    }
+    match text.parse::<u64>() {
+        Ok(number) => Some(number),
+        Err(_) => None,
+    }
+}
+
+// The three numbers that a text is.
+fn numbers(text: &str) -> Option<(u64, u64, u64)> {
+    let (major, rest) = text.split_once('.')?;
+    let (minor, patch) = rest.split_once('.')?;
+    Some((number(major)?, number(minor)?, number(patch)?))
+}
+
+// Whether the first of two versions is the lower one.
+fn is_below(one: (u64, u64, u64), other: (u64, u64, u64)) -> bool {
+    if one.0 != other.0 {
+        one.0 < other.0
+    } else if one.1 != other.1 {
+        one.1 < other.1
+    } else {
+        one.2 < other.2
+    }
+}
+
+/// A version in a range whose pre-release is itself a higher version, as of `1.0.0-2.0.0`: what stands before the `-`, and behind it.
+pub fn version_as_pre_release(range: &str) -> Option<(&str, &str)> {
+    for part in range.split("||") {
+        if let Some((from, to)) = part.trim().split_once('-')
+            && let Some(one) = numbers(from)
+            && let Some(other) = numbers(to)
+            && is_below(one, other)
+        {
+            return Some((from, to));
+        }
+    }
+    None
+}
+
 /// Whether a version in the text is longer than npm's are.
 pub fn has_long_word(text: &str) -> bool {
     for word in text.split(is_space) {
