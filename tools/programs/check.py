@@ -325,7 +325,8 @@ def plenty():
     yield ask("ranges", ["normal", *ranges], "", ("1\n" * PLENTY, "", 0))
     yield ask("ranges", ["overlap", *ranges], "", ("yes\n", "", 0))
     yield ask("ranges", ["overlap", *["*"] * PLENTY, "1", "2"], "", ('no "1" and "2"\n', "", 1))
-    yield ask("ranges", ["check", *ranges], "", ("", "ranges: 1: no such file\n" * PLENTY, 3))
+    files = [f"no{number}" for number in range(PLENTY)]
+    yield ask("ranges", ["check", *files], "", ("", "".join(f"ranges: {name}: no such file\n" for name in files), 3))
     yield ask("ranges", ["check", "-"], "^1..2\n" * PLENTY, ("".join(ONE_CHECKED.format(line) for line in range(1, PLENTY + 1)), "", 1))
     nested = '{"x":' + "[" * PLENTY + "]" * PLENTY + ',"dependencies":{"a":"1..2"}}'
     yield ask("ranges", ["check", "-"], nested, (f'-:1:{nested.index("1..2") + 1}: warning: a: "1..2": is a version meant? [odd-tag]\n', "", 0))

@@ -304,7 +304,7 @@ pub fn known_of<R: Files + AllocGlobal>(rt: &R, group: &Group) -> Result<Known, 
             entries_of(rt, path.as_str())?.as_slice(),
         )?;
     }
-    for (place, path) in group.paths.iter().enumerate() {
+    for (place, path) in group.paths.iter().chain(group.others.iter()).enumerate() {
         let entries = entries_of(rt, path.as_str())?;
         known.learn(alloc, path.as_str(), entries.as_slice())?;
         if let Some(name) = text_of(entries.as_slice(), Kind::Name)

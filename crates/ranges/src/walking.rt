@@ -4,7 +4,7 @@ use patterns::ignored::{Ignored, is_ignored};
 use patterns::paths::names_of;
 use patterns::workspaces::{Workspace, is_workspace, undo};
 use std::alloc::{AllocError, Global};
-use std::collections::{BTreeMap, HashSet};
+use std::collections::{BTreeMap, HashMap, HashSet};
 use std::env::VarError;
 use std::io::{BufRead, ErrorKind, Read, Write};
 use std::rt::{Files, Runtime};
@@ -44,6 +44,8 @@ pub struct Group {
     pub is_whole: bool,
     /// The manifests of the workspace that the folder or the file belongs to. The levels that they set count, too.
     pub above: Vec<String>,
+    /// The manifests that were found with these, and that another group has.
+    pub others: Vec<String>,
 }
 
 impl Group {
@@ -63,6 +65,7 @@ impl Group {
             unmatched: Vec::new(alloc),
             is_whole: false,
             above: Vec::new(alloc),
+            others: Vec::new(alloc),
         }
     }
 
@@ -893,6 +896,64 @@ pub fn find<R: Runtime + AllocGlobal, O: Write, E: Write>(
         all.groups.push(found)?;
     }
     add_import_maps(rt, all.groups.as_mut_slice())?;
+    let Manifests { groups, status } = all;
+    let groups = without_repeated(alloc, groups)?;
+    Ok(Manifests { groups, status })
+}
+
+// A group without the files that one before it has, and with each of its own once. `seen` has the turns in which the paths came first. The
+// manifests of its folder still count for the others, as those above do.
+fn without_seen(
+    alloc: Global,
+    seen: &mut HashMap<String, usize>,
+    turn: usize,
+    group: Group,
+) -> Result<Group, AllocError> {
+    let Group {
+        paths,
+        own,
+        unmatched,
+        is_whole,
+        mut above,
+        mut others,
+    } = group;
+    let mut kept = Vec::new(alloc);
+    let (mut kept_own, mut place) = (0usize, 0usize);
+    for path in paths {
+        let is_own = place < own;
+        place = place.saturating_add(1);
+        let name = normalized(alloc, path.as_str())?;
+        let first = seen.get(name.as_str()).copied();
+        match first {
+            None => {
+                let _ = seen.insert(name, turn)?;
+                kept.push(path)?;
+                kept_own = kept_own.saturating_add(usize::from(is_own));
+            }
+            Some(first) if first == turn => (),
+            Some(_) if is_own => above.push(path)?,
+            Some(_) => others.push(path)?,
+        }
+    }
+    Ok(Group {
+        paths: kept,
+        own: kept_own,
+        unmatched,
+        is_whole,
+        above,
+        others,
+    })
+}
+
+// The groups with each file once.
+fn without_repeated(alloc: Global, groups: Vec<Group>) -> Result<Vec<Group>, AllocError> {
+    let mut seen = HashMap::new(alloc);
+    let mut all = Vec::new(alloc);
+    let mut turn = 0usize;
+    for group in groups {
+        all.push(without_seen(alloc, &mut seen, turn, group)?)?;
+        turn = turn.saturating_add(1);
+    }
     Ok(all)
 }
 
