@@ -2,6 +2,7 @@
 
 use crate::advice::contained;
 use crate::diff::print_diff;
+use crate::known::entries_of;
 use crate::rules::{Level, Levels, Rule};
 use crate::walking::{Group, read_file};
 use answers::asking::Problem;
@@ -389,6 +390,49 @@ impl Edit<'_> {
     }
 }
 
+// The keys of Yarn's resolutions that name a package with a range, in the manifests of a group's root.
+fn pins_of<R: Files + AllocGlobal>(rt: &R, group: &Group) -> Result<Vec<String>, Stop> {
+    let mut pins = Vec::new(rt.alloc());
+    let roots = group.paths.iter().take(group.root_count());
+    for path in group.above.iter().chain(roots) {
+        if !path.as_str().ends_with("package.json") {
+            continue;
+        }
+        for entry in entries_of(rt, path.as_str())? {
+            let is_key = entry.section == "resolutions" && entry.kind == Kind::Override("/");
+            if is_key && entry.text.as_str().contains('@') {
+                pins.push(entry.text.clone()?)?;
+            }
+        }
+    }
+    Ok(pins)
+}
+
+// Whether a key of resolutions ends with a package and its range.
+fn ends_with_package(key: &str, package: &str) -> bool {
+    match key.strip_suffix(package) {
+        Some(front) => front.is_empty() || front.ends_with('/'),
+        None => false,
+    }
+}
+
+// Whether a key of resolutions names a dependency by its string, with which Yarn compares the key.
+fn is_pinned(alloc: Global, pins: &[String], entry: &Entry) -> Result<bool, AllocError> {
+    if pins.is_empty() || entry.kind != Kind::Dependency {
+        return Ok(false);
+    }
+    let (name, text) = (entry.name.as_str(), entry.text.as_str());
+    let short = format!(in alloc; "{name}@{text}")?;
+    let long = format!(in alloc; "{name}@npm:{text}")?;
+    for pin in pins {
+        let key = pin.as_str();
+        if ends_with_package(key, short.as_str()) || ends_with_package(key, long.as_str()) {
+            return Ok(true);
+        }
+    }
+    Ok(false)
+}
+
 // A file with better ranges. Its other bytes stay.
 fn with_fixes(
     alloc: Global,
@@ -396,6 +440,7 @@ fn with_fixes(
     old: String,
     entries: &[Entry],
     levels: &Levels,
+    pins: &[String],
 ) -> Result<Rewritten, Stop> {
     // Places count from behind the byte order mark.
     let file = old.as_str();
@@ -408,11 +453,16 @@ fn with_fixes(
         taken: 0,
         count: 0,
     };
+    let mut left = 0usize;
     for entry in entries {
         if let Some(found) = found_in(alloc, entry)?
             && let Some(range) = better(alloc, levels, entry.kind, found)?
         {
-            edit.put(entry, found, range.as_str())?;
+            if is_pinned(alloc, pins, entry)? {
+                left = left.saturating_add(usize::from(range.as_str() != found.range.trim()));
+            } else {
+                edit.put(entry, found, range.as_str())?;
+            }
         }
     }
     let Edit {
@@ -428,6 +478,7 @@ fn with_fixes(
         old,
         new,
         count,
+        left,
     })
 }
 
@@ -440,6 +491,8 @@ pub struct Rewritten {
     pub new: String,
     /// How many ranges were rewritten.
     pub count: usize,
+    /// How many weren't, since a key of resolutions names them.
+    left: usize,
 }
 
 impl Drop for Rewritten {
@@ -449,6 +502,7 @@ impl Drop for Rewritten {
             old,
             new,
             count: _,
+            left: _,
         } = self;
         drop(path);
         drop(old);
@@ -716,6 +770,7 @@ pub fn rewrite<R: Input + Files + AllocGlobal, O: Write, E: Write>(
     let mut shared = Levels::new();
     shared.put(Rule::NotCanonical, Level::Warning);
     set_above(rt, &mut shared, group)?;
+    let pins = pins_of(rt, group)?;
     for (place, path) in group.paths.iter().enumerate() {
         let path = path.as_str();
         let old = read_file(rt, console, path)?;
@@ -727,7 +782,21 @@ pub fn rewrite<R: Input + Files + AllocGlobal, O: Write, E: Write>(
             shared = levels;
         }
         apply(alloc, &mut levels, settings)?;
-        all.push(with_fixes(alloc, path, old, entries.as_slice(), &levels)?)?;
+        let file = with_fixes(
+            alloc,
+            path,
+            old,
+            entries.as_slice(),
+            &levels,
+            pins.as_slice(),
+        )?;
+        if file.left > 0 {
+            let (path, ranges) = (Shown(path), Counted(file.left, "range"));
+            console.tell(format_args!(
+                "{path}: left {ranges} alone: a key of `resolutions` has the same string"
+            ));
+        }
+        all.push(file)?;
     }
     Ok(all)
 }

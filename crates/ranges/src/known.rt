@@ -197,8 +197,8 @@ impl Known {
     }
 }
 
-// The entries of a file; none if it can't be read.
-fn entries_of<R: Files + AllocGlobal>(rt: &R, path: &str) -> Result<Vec<Entry>, Stop> {
+/// The entries of a file; none if it can't be read.
+pub fn entries_of<R: Files + AllocGlobal>(rt: &R, path: &str) -> Result<Vec<Entry>, Stop> {
     match fs::read_to_string(rt, path) {
         Ok(text) => Ok(entries(rt.alloc(), path, text.as_str())?),
         Err(error) if error.kind() == ErrorKind::OutOfMemory => Err(Stop::OutOfMemory),
