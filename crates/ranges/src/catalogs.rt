@@ -46,14 +46,19 @@ pub fn shelve(alloc: Global, catalogs: &mut Catalogs, entry: &Entry) -> Result<(
     Ok(())
 }
 
+/// What a catalog has for a package.
+pub fn shelved<'c>(catalogs: &'c Catalogs, catalog: &str, name: &str) -> Option<&'c str> {
+    let catalog = catalog_name(catalog);
+    let all = catalogs.get(name)?;
+    let found = all.iter().find(|it| it.catalog.as_str() == catalog)?;
+    Some(found.text.as_str())
+}
+
 /// The text of a dependency, or what the catalog has for it that the text refers to.
 pub fn resolved<'e>(catalogs: &'e Catalogs, entry: &'e Entry) -> Option<&'e str> {
     let text = entry.text.as_str();
     let Some(catalog) = text.strip_prefix("catalog:") else {
         return Some(text);
     };
-    let catalog = catalog_name(catalog);
-    let all = catalogs.get(entry.name.as_str())?;
-    let found = all.iter().find(|it| it.catalog.as_str() == catalog)?;
-    Some(found.text.as_str())
+    shelved(catalogs, catalog, entry.name.as_str())
 }

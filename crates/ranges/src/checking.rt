@@ -778,8 +778,17 @@ fn check_relations<'e, O: Write, E: Write>(
                 report.add(console, entry, finding)?;
             }
         }
-        "overrides" | "pnpm" if file.is_root && file.is_of_npm() => {
-            check_reference(console, report, entry, &names.overrides)?;
+        "overrides" | "pnpm" if file.is_root => {
+            if file.is_of_npm() {
+                check_reference(console, report, entry, &names.overrides)?;
+            }
+            let is_of_pnpm = entry.section == "pnpm" || !file.is_of_npm();
+            if is_of_pnpm
+                && let Some(message) = file.known.refusal_of_override(console.alloc, entry)?
+            {
+                let finding = Finding::new(Cause::Refused, message.as_str());
+                report.add(console, entry, finding)?;
+            }
         }
         _ => (),
     }

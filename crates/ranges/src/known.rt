@@ -1,13 +1,13 @@
 //! What the files of a workspace say of one another: the names and versions of its packages, and pnpm's catalogs.
 
-use crate::catalogs::{Catalogs, catalog_name, resolved, shelve};
+use crate::catalogs::{Catalogs, catalog_name, shelve, shelved};
 use crate::walking::{Group, split_path};
 use answers::asking::{Answer, Problem};
 use answers::questions::matches;
 use deno_semver::PreRelease;
 use semver_req::common::values::Flavour;
 use std::alloc::{AllocError, Global};
-use std::collections::BTreeMap;
+use std::collections::{BTreeMap, HashSet};
 use std::fs;
 use std::io::ErrorKind;
 use std::rt::Files;
@@ -15,8 +15,9 @@ use terminal::console::Stop;
 use terminal::entry::Entry;
 use terminal::hints::behind_protocol;
 use terminal::manifest::entries;
-use terminal::npm::{Source, is_package_name, renamed, source_of};
+use terminal::npm::{Source, ends_in_key, is_package_name, name_and_range, renamed, source_of};
 use terminal::sections::Kind;
+use terminal::shown::part;
 
 const WORKSPACE: &str = "pnpm-workspace.yaml";
 
@@ -39,6 +40,8 @@ pub struct Known {
     versions: BTreeMap<String, String>,
     /// How many workspaces have a name; the root of all isn't counted.
     names: BTreeMap<String, usize>,
+    /// The packages that the root's manifest asks for, if it is known.
+    direct: Option<HashSet<String>>,
     /// Whether all of them are known.
     is_whole: bool,
     /// Whether the files are all of the workspace.
@@ -47,6 +50,32 @@ pub struct Known {
     named: Option<bool>,
     /// Whether the lockfile beside the root's manifest is npm's; none if there is no lockfile, or those of several package managers.
     locked: Option<bool>,
+}
+
+// The name of the package that a key of pnpm's overrides is about.
+fn last_name(alloc: Global, key: &str) -> Result<&str, AllocError> {
+    let mut start = 0usize;
+    for end in ends_in_key(alloc, key, ">")?.iter() {
+        if *end < key.len() {
+            start = end.saturating_add(1);
+        }
+    }
+    Ok(name_and_range(part(key, start, key.len())).0)
+}
+
+// The packages that a manifest asks for.
+fn direct_of(alloc: Global, entries: &[Entry]) -> Result<HashSet<String>, AllocError> {
+    let mut names = HashSet::new(alloc);
+    for entry in entries {
+        let is_asked = matches!(
+            entry.section,
+            "dependencies" | "devDependencies" | "optionalDependencies"
+        );
+        if is_asked && !entry.text.is_empty() {
+            let _ = names.insert(String::from_str(alloc, entry.name.as_str())?)?;
+        }
+    }
+    Ok(names)
 }
 
 // The text of the first entry of a kind, if there is one.
@@ -72,6 +101,7 @@ impl Known {
             catalogs: BTreeMap::new(alloc),
             versions: BTreeMap::new(alloc),
             names: BTreeMap::new(alloc),
+            direct: None,
             is_whole: false,
             is_of_members: false,
             named: None,
@@ -152,6 +182,60 @@ impl Known {
         }
     }
 
+    // Why pnpm refuses a reference to a catalog for a package, if it does.
+    fn refusal_of_catalog(
+        &self,
+        alloc: Global,
+        catalog: &str,
+        name: &str,
+    ) -> Result<Option<String>, AllocError> {
+        if shelved(&self.catalogs, catalog, name).is_some() {
+            return Ok(None);
+        }
+        let catalog = match catalog_name(catalog) {
+            "catalog" => "default",
+            catalog => catalog,
+        };
+        let message = format!(in alloc;
+            "pnpm refuses it: the catalog `{catalog}` has no entry for it"
+        )?;
+        Ok(Some(message))
+    }
+
+    /// Why pnpm refuses the text of one of its overrides, if what is known says so.
+    pub fn refusal_of_override(
+        &self,
+        alloc: Global,
+        entry: &Entry,
+    ) -> Result<Option<String>, AllocError> {
+        let text = entry.text.as_str();
+        if self.workspace != Workspace::Pnpm || entry.object.as_str() != "overrides" {
+            return Ok(None);
+        }
+        if let Some(catalog) = text.strip_prefix("catalog:") {
+            let name = last_name(alloc, entry.name.as_str())?;
+            return self.refusal_of_catalog(alloc, catalog, name);
+        }
+        match text.strip_prefix('$') {
+            // The manifest itself has the others.
+            Some(name) if entry.section == "overrides" && self.lacks(name) => {
+                let message = format!(in alloc;
+                    "pnpm refuses it: no dependency is named `{name}`"
+                )?;
+                Ok(Some(message))
+            }
+            _ => Ok(None),
+        }
+    }
+
+    // Whether the root's manifest is known, and doesn't depend on a package.
+    fn lacks(&self, name: &str) -> bool {
+        match &self.direct {
+            Some(direct) => !direct.contains(name),
+            None => false,
+        }
+    }
+
     /// Why no package manager takes the text of a dependency, if what is known says so.
     pub fn refusal(&self, alloc: Global, entry: &Entry) -> Result<Option<String>, AllocError> {
         let text = entry.text.as_str();
@@ -163,17 +247,7 @@ impl Known {
         if let Some(catalog) = text.strip_prefix("catalog:")
             && self.workspace == Workspace::Pnpm
         {
-            if resolved(&self.catalogs, entry).is_some() {
-                return Ok(None);
-            }
-            let catalog = match catalog_name(catalog) {
-                "catalog" => "default",
-                catalog => catalog,
-            };
-            let message = format!(in alloc;
-                "pnpm refuses it: the catalog `{catalog}` has no entry for it"
-            )?;
-            return Ok(Some(message));
+            return self.refusal_of_catalog(alloc, catalog, entry.name.as_str());
         }
         let Some(asked) = behind_protocol(text, "workspace:") else {
             return Ok(None);
@@ -307,10 +381,15 @@ pub fn known_of<R: Files + AllocGlobal>(rt: &R, group: &Group) -> Result<Known, 
     for (place, path) in group.paths.iter().chain(group.others.iter()).enumerate() {
         let entries = entries_of(rt, path.as_str())?;
         known.learn(alloc, path.as_str(), entries.as_slice())?;
-        if let Some(name) = text_of(entries.as_slice(), Kind::Name)
-            && path.as_str().ends_with("package.json")
-        {
-            known.learn_name(alloc, name, place < group.own)?;
+        if !path.as_str().ends_with("package.json") {
+            continue;
+        }
+        let is_root = place < group.own;
+        if is_root {
+            known.direct = Some(direct_of(alloc, entries.as_slice())?);
+        }
+        if let Some(name) = text_of(entries.as_slice(), Kind::Name) {
+            known.learn_name(alloc, name, is_root)?;
         }
     }
     Ok(known)
