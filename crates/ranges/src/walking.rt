@@ -464,15 +464,17 @@ fn add_workspaces<R: Runtime + AllocGlobal, O: Write, E: Write>(
     let mut status = Status::Answered;
     let entries = entries(alloc, path, text.as_str())?;
     let first = workspaces.len();
+    let is_of_npm = path.ends_with("package.json");
     for entry in entries.iter().filter(|entry| entry.kind == Kind::Workspace) {
         let pattern = entry.text.as_str();
         let is_extended = is_extended(pattern);
+        let read = with_slashes(alloc, pattern, is_of_npm)?;
         let workspace = if is_extended {
             None
         } else {
-            Workspace::new(alloc, pattern)?
+            Workspace::new(alloc, read.as_str())?
         };
-        let Some(workspace) = workspace else {
+        let Some(mut workspace) = workspace else {
             let message = if is_extended {
                 "a pattern with `!(`, `?(`, `*(`, `+(` or `@(` isn't read: write one for each folder"
             } else {
@@ -482,12 +484,27 @@ fn add_workspaces<R: Runtime + AllocGlobal, O: Write, E: Write>(
             status = status.worse(console.complain(subject, message));
             continue;
         };
-        if path.ends_with("package.json") {
+        workspace.text = String::from_str(alloc, pattern)?;
+        if is_of_npm {
             undo(alloc, workspaces.as_mut_slice(), first, &workspace)?;
         }
         workspaces.push(workspace)?;
     }
     Ok(status)
+}
+
+// A pattern of workspaces with `/` for `\`, as npm reads one, unless it begins with it or leaves folders out.
+fn with_slashes(alloc: Global, pattern: &str, is_of_npm: bool) -> Result<String, AllocError> {
+    let has_odd_front = pattern.starts_with(['!', '\\'].as_slice()) || pattern.starts_with(".\\");
+    let mut all = String::new(alloc);
+    for c in pattern.chars() {
+        if c == '\\' && is_of_npm && !has_odd_front {
+            all.push('/')?;
+        } else {
+            all.push(c)?;
+        }
+    }
+    Ok(all)
 }
 
 // Whether a pattern has lists of patterns in parentheses, of which npm takes one, none, several or all others.
