@@ -681,13 +681,15 @@ pub fn read_range(text: &str) -> Read<'_> {
 /// The range without the words that npm ignores, and without the alternatives that it leaves out; none if an operator ends a word there.
 pub fn without_ignored(alloc: Global, text: &str) -> Result<Option<String>, AllocError> {
     let mut kept = String::new(alloc);
-    let mut separator = "";
+    let mut is_first = true;
     for part in text.split("||") {
         if !alternative_of(part).is_kept {
             continue;
         }
-        kept.push_str(separator)?;
-        separator = "||";
+        if !is_first {
+            kept.push_str("||")?;
+        }
+        is_first = false;
         for word in part.split(is_space) {
             if !split_operator(word).1.is_empty() {
                 return Ok(None);
