@@ -47,7 +47,7 @@ pub fn shelve(alloc: Global, catalogs: &mut Catalogs, entry: &Entry) -> Result<(
 }
 
 /// What a catalog has for a package.
-pub fn shelved<'c>(catalogs: &'c Catalogs, catalog: &str, name: &str) -> Option<&'c str> {
+pub fn text_in<'c>(catalogs: &'c Catalogs, catalog: &str, name: &str) -> Option<&'c str> {
     let catalog = catalog_name(catalog);
     let all = catalogs.get(name)?;
     let found = all.iter().find(|it| it.catalog.as_str() == catalog)?;
@@ -60,5 +60,5 @@ pub fn resolved<'e>(catalogs: &'e Catalogs, entry: &'e Entry) -> Option<&'e str>
     let Some(catalog) = text.strip_prefix("catalog:") else {
         return Some(text);
     };
-    shelved(catalogs, catalog, entry.name.as_str())
+    text_in(catalogs, catalog, entry.name.as_str())
 }

@@ -1,6 +1,6 @@
 //! What the files of a workspace say of one another: the names and versions of its packages, and pnpm's catalogs.
 
-use crate::catalogs::{Catalogs, catalog_name, shelve, shelved};
+use crate::catalogs::{Catalogs, catalog_name, shelve, text_in};
 use crate::walking::{Group, split_path};
 use answers::asking::{Answer, Problem};
 use answers::questions::matches;
@@ -189,7 +189,7 @@ impl Known {
         catalog: &str,
         name: &str,
     ) -> Result<Option<String>, AllocError> {
-        if shelved(&self.catalogs, catalog, name).is_some() {
+        if text_in(&self.catalogs, catalog, name).is_some() {
             return Ok(None);
         }
         let catalog = match catalog_name(catalog) {
