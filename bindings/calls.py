@@ -15,8 +15,8 @@ PAGE = TOP / "docs/CALLS.md"
 HEAD = """# Which call answers which question
 
 Each row has a question, and the calls that answer it in each language, in `ranges` and in node-semver. Put `semver_` before a name of C.
-`scan`, `scans_read`, `version_compare`, `version_order`, `version_key`, and the calls of C that begin with `req_` or `list_`, take handles.
-A name with a dot is a method. `bindings/calls.py` writes this page.
+These calls of C take handles: `package_read`, `scan`, `scans_read`, `version_compare`, `version_key`, `version_order`, and those that begin
+with `req_` or `list_`. A name with a dot is a method. `bindings/calls.py` writes this page.
 
 The table has every call of C, every function of Python and of JavaScript, and every command of `ranges`, except these:
 
