@@ -96,8 +96,8 @@ def read(name: str, *arguments: Any, after: Tuple[Any, ...] = ()) -> Tuple[int, 
 
 
 def hold(name: str, *arguments: Any) -> Tuple[int, str, Handle]:
-    """Puts a value into a handle by a call. Returns its code, a text and the handle. The text is the value's (empty if that is long), or an
-    error message.
+    """Puts a value into a handle by a call. Returns the call's code, a text and the handle. The text is how the value is displayed, or
+    empty if that is longer than SHORT; if the call fails, it is an error message.
 
     A call isn't repeated once the handle has a value."""
     handle, needed, size, out = Handle(), c_size_t(), SHORT, Short()
@@ -128,7 +128,7 @@ def _fail_unless_invalid(code: int, text: str, index: Optional[int] = None) -> N
 
 
 def _place(text: str, parts: Dict[str, Any]) -> Tuple[int, int, Tuple[str, ...]]:
-    """The place of an error with these parts, whose indexes are those of bytes, and what could be there."""
+    """Where an error begins and ends, as indexes of characters, and what could stand at its start. `parts` has the indexes of bytes."""
     source = text.encode()
     start, end = (len(source[: parts[name]].decode()) for name in ("start", "end"))
     return start, end, tuple(parts["expected"])

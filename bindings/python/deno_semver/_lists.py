@@ -106,7 +106,7 @@ def _parsed(range: AnyRange) -> Range:
 
 
 def _expect_answer(code: int, range: Range) -> None:
-    """Raises what a code that is no answer means."""
+    """Raises the error that a negative code means."""
     if code == TAG:
         raise TagError("The range is a tag.", range.text)
     if code < 0:

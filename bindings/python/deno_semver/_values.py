@@ -25,7 +25,7 @@ from ._calls import (
 from ._errors import InvalidRange, InvalidVersion, TagError
 from ._table import Handle
 
-_HOLDING = Lock()  # a version, which threads may share, is held once
+_HOLDING = Lock()  # threads may share a version, and only one of them may make its handle
 
 Grammar = Literal["npm", "normalized", "strict"]
 
