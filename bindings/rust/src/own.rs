@@ -23,7 +23,7 @@ pub(crate) fn is_plain_range(text: &str) -> bool {
     plain_numbers(partial).is_some()
 }
 
-/// The three numbers of a version as most are: of at most 15 digits and without leading zeros, a pre-release and a build.
+/// The three numbers of a version as most are: each has at most 15 digits and no leading zero, and no pre-release or build follows.
 #[inline]
 pub(crate) fn plain_release(text: &str) -> Option<[u64; 3]> {
     plain_numbers(text.as_bytes()).filter(|(_, count)| *count == 3).map(|(numbers, _)| numbers)

@@ -93,12 +93,12 @@ impl Partial {
         VersionRange { start: of_kind(range.start), end: of_kind(range.end) }
     }
 
-    /// Where a range starts whose lower end is this partial version.
+    /// The start of a range whose lower end is this partial version.
     pub fn as_lower_bound(&self) -> RangeBound {
         range(Grammar::Npm, &format!("{self} - *")).start
     }
 
-    /// Where a range ends whose upper end is this partial version.
+    /// The end of a range whose upper end is this partial version.
     pub fn as_upper_bound(&self) -> RangeBound {
         range(Grammar::Npm, &format!("* - {self}")).end
     }

@@ -38,8 +38,9 @@ pub struct VersionParts {
 /// A version. You read its parts `major`, `minor`, `patch`, `pre` and `build` as fields, and make a version of parts by
 /// [`Version::from_parts`].
 ///
-/// `Eq`, `Hash` and `Ord` include the build: the order is by precedence, then by build. To compare a version with a pre-release or a
-/// build, or to match it again, the crate parses it into a handle of the C library. It does so once; all copies of the version share it.
+/// `Eq`, `Hash` and `Ord` include the build: the order is by precedence, then by build. If a version has a pre-release or a build, the crate
+/// parses it into a handle of the C library when you first read its parts, display or hash it, ask for its sort key, compare it with another
+/// version of the same three numbers, or match it a second time. It does so once; all copies of the version share the handle.
 #[derive(Default)]
 pub struct Version {
     // The release of the three numbers. Its lists are empty, so there is nothing to drop.
