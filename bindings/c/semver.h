@@ -377,8 +377,8 @@ int32_t semver_scans_read(const semver_req *range, uint32_t pre_releases, semver
 void semver_scans_free(semver_scans *handle);
 
 /* The scan at this index, counted from 0: NO, if it is about releases, or YES, if it is about pre-releases. Its keys are written to
- * `low` and `high`, as every string is. If there is none at the index, the code is NO_VALUE, and both lengths are 0, as for an empty
- * handle. */
+ * `low` and `high`, as a string is to `out`. If there is none at the index, the code is NO_VALUE, and both lengths are 0, as for
+ * an empty handle. */
 int32_t semver_scan(const semver_scans *handle, size_t index, char *low, size_t low_len, size_t *low_needed,
                     char *high, size_t high_len, size_t *high_needed);
 
