@@ -12,3 +12,4 @@ pub mod TextLists
 mod ErrorJson
 pub mod Whether
 pub mod WritableArguments
+pub mod Simplified

@@ -48,6 +48,11 @@ pub data Given {X Y P : Type 0} (Argument : Result X P → Type 0) (Asked : X �
   valid : {x : X} {outcome : Result Y P} → Argument (Ok x) → Asked x outcome → Given Argument Asked outcome
   invalid : {fault : P} → Argument (Err fault) → Given Argument Asked (Err fault)
 
+-- what is made of the value of an argument; if the argument is invalid, something else
+pub data OrElse {X Y : Type 0} (Argument : Result X Fault → Type 0) (made : X → Y) (other : Y) : Result Y Fault → Type 0 where
+  of_value : {x : X} → Argument (Ok x) → OrElse Argument made other (Ok (made x))
+  of_fault : {fault : Fault} → Argument (Err fault) → OrElse Argument made other (Ok other)
+
 -- the values of texts, whose places count from this one on
 abbrev pub Each : {X P : Type 0} → (ℕ → List ℕ → Result X P → Type 0) → ℕ → List (List ℕ) → Result (List X) P → Type 0
 Each Argument place [] = Is []

@@ -9,7 +9,7 @@ use Rattle.semver_req.specs.Requirement.{inner_means_with, tag_of}
 use Rattle.semver_req.specs.declared.common.values.Flavour.{Flavour}
 use Rattle.semver_req.specs.declared.range_set_or_tag.RangeSetOrTag.{RangeSetOrTag}
 use Rattle.semver_req.specs.declared.range_set_or_tag.RangeSetOrTag.TheVariants as inner
-use Rattle.answers.specs.Asking.{Each, Fault, Given, Is}
+use Rattle.answers.specs.Asking.{Each, Fault, Given, Is, OrElse}
 use Rattle.answers.specs.Questions.{UnlessTag}
 use Rattle.answers.specs.Reading.{IsRangeAt, IsVersionAt}
 use Rattle.answers.specs.declared.asking.Answer.{Answer}
@@ -23,9 +23,8 @@ list_answer items (Value list) = Value (items list)
 list_answer items (Tag tag) = Tag tag
 
 -- what is asked of the version that a text parses to; none if the text isn't a version
-pub data IsLine {X : Type 0} (value : Version → X) (place : ℕ) (text : List ℕ) : Result (Option X) Fault → Type 0 where
-  of_version : {v : Version} → IsVersionAt place text (Ok v) → IsLine value place text (Ok (Some (value v)))
-  of_no_version : {fault : Fault} → IsVersionAt place text (Err fault) → IsLine value place text (Ok None)
+abbrev pub IsLine : {X : Type 0} → (Version → X) → ℕ → List ℕ → Result (Option X) Fault → Type 0
+IsLine value place text = OrElse (IsVersionAt place text) (λ v. Some (value v)) None
 
 -- whether the version that a text parses to passes the test
 abbrev pub LineMatch : (Version → Bool) → ℕ → List ℕ → Result (Option Bool) Fault → Type 0

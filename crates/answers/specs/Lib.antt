@@ -13,3 +13,4 @@ pub mod AskingLaws
 pub mod ErrorLaws
 pub mod ReadingLaws
 pub mod Steps
+pub mod Simplifying

@@ -11,5 +11,6 @@ pub mod outdated;
 pub mod parts;
 pub mod questions;
 pub mod reading;
+pub mod simplifying;
 pub mod sorting;
 pub mod steps;

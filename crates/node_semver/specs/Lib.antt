@@ -6,3 +6,4 @@ pub mod Increment
 pub mod NextVersions
 pub mod Outside
 pub mod ReleaseTypes
+pub mod Simplify
