@@ -254,6 +254,13 @@ static void lowest(const text *t) {
     check_match(code, place);
 }
 
+static void simplify(const text *t) {
+    size_t place = 99;
+    int32_t code = semver_simplify(grammar, BYTES(t[0]), BYTES(t[1]), pre_releases, OUT, &place);
+    check_text(code);
+    check_place(code, place);
+}
+
 static void intersects(const text *t) {
     size_t place = 99;
     int32_t code = semver_intersects(grammar, BYTES(t[0]), BYTES(t[1]), &place);
@@ -447,6 +454,7 @@ static const struct call {
     {"filter", 2, .ask = filter},
     {"best", 2, .ask = best},
     {"lowest", 2, .ask = lowest},
+    {"simplify", 2, .ask = simplify},
     {"sort", 0, .ask = sort},
     {"list_best", 2, .ask = list_best},
     {"list_lowest", 2, .ask = list_lowest},

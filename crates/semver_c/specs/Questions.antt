@@ -20,6 +20,7 @@ use Rattle.package_answers.specs.Packages.{IsPackageErrorsText}
 use Rattle.answers.specs.Questions.{BestMatch, Common, Equivalent, LiesOutside, Matches, Outside, match_of}
 use Rattle.answers.specs.Reading.{IsRangeAt, IsVersionAt}
 use Rattle.package_answers.specs.References.{IsReferenceErrorsText}
+use Rattle.answers.specs.Simplifying.{Simplifies}
 use Rattle.answers.specs.Sorting.{Sorts}
 use Rattle.answers.specs.Steps.{Increments}
 use Rattle.answers.specs.declared.asking.Answer.{Answer}
@@ -83,6 +84,10 @@ Filters number g range versions = ByTwo g range versions (λ f r v. Filter (pre_
 -- `semver_best` and `semver_lowest`
 abbrev pub BestLine : End → ℕ → ℕ → List ℕ → List ℕ → Result (Answer (Option Best)) CallFault → Type 0
 BestLine end number g range versions = ByTwo g range versions (λ f r v. BestMatch end (pre_release_by number) f r (lines v))
+
+-- `semver_simplify`
+abbrev pub SimplifiesBy : ℕ → ℕ → List ℕ → List ℕ → Result (Answer (List ℕ)) CallFault → Type 0
+SimplifiesBy number g range versions = ByTwo g range versions (λ f r v. Simplifies (pre_release_by number) f r (lines v))
 
 -- `semver_equivalent`
 abbrev pub EquivalentBy : ℕ → ℕ → List ℕ → List ℕ → Result (Answer Bool) CallFault → Type 0

@@ -29,7 +29,7 @@ ghost use Rattle.package_answers.specs.References.{ReferenceParts};
 ghost use Rattle.semver_c.specs.Arguments.{pre_release_by};
 ghost use Rattle.semver_c.specs.Codes.{IsCode, IsPlaceReply, IsPlaced, IsReply, IsReported, IsUntouched, IsUntouchedWithoutValue, always_yes, as_place, best_code, best_place, bool_code, code_of, filter_code, filter_numbers, found_code, found_text, lowest_code, lowest_text, match_code, no_place, no_text, number_of, or_message, or_nothing, order_code, text_code, text_of, three_numbers, unqualified_code, yes};
 ghost use Rattle.semver_c.specs.Held.{AreHeldScans, IsHeld, IsHeldBest, IsHeldEqual, IsScansCode, OfHeld, of_both, of_one, range_in, scan_at, scan_code, scans_in, version_in, versions_in};
-ghost use Rattle.semver_c.specs.Questions.{BestLine, ByOne, ByTwo, CoercesTo, CommonBy, CommonOfAll, EquivalentBy, ErrorsBy, ExplainsBy, ExportNameOf, Filters, Fits, IncrementBy, Lies, LowestBy, MatchesHeld, NumbersOf, OfText, OfTexts, OutsideBy, PackageErrorsBy, RangeBy, ReferenceErrorsOf, SortsOf, TagBy, VersionErrorOf, VersionListOf, WhyBy};
+ghost use Rattle.semver_c.specs.Questions.{BestLine, ByOne, ByTwo, CoercesTo, CommonBy, CommonOfAll, EquivalentBy, ErrorsBy, ExplainsBy, ExportNameOf, Filters, Fits, IncrementBy, Lies, LowestBy, MatchesHeld, NumbersOf, OfText, OfTexts, OutsideBy, PackageErrorsBy, RangeBy, ReferenceErrorsOf, SimplifiesBy, SortsOf, TagBy, VersionErrorOf, VersionListOf, WhyBy};
 ghost use Rattle.semver_c.specs.declared.codes.Code.{Code};
 ghost use Rattle.semver_c.specs.declared.codes.Code.TheVariants as code;
 
@@ -53,8 +53,9 @@ use questions::{
     explanation_of, export_name_of, filter, filter_held, fits, increment_of, is_tag, key_held,
     key_of, lies, lowest, match_code, matches_held, name_with_version_of, names_tag, numbers_of,
     order_of, outside, overlap, package_errors_of, package_of, ranges_of, read_list,
-    read_package_of, read_range, read_version, reference_errors_of, reference_of, sorted_held,
-    sorted_lines, version_error_of, version_parts_of, version_reference_of, why_invalid,
+    read_package_of, read_range, read_version, reference_errors_of, reference_of, simplified_of,
+    sorted_held, sorted_lines, version_error_of, version_parts_of, version_reference_of,
+    why_invalid,
 };
 use reports::{
     put, put_items, put_place, report_best, report_filter, report_held, report_lowest,
@@ -471,6 +472,30 @@ pub extern "C" fn semver_lowest(
 {
     let answer = best_line(alloc, End::Lowest, grammar, range, versions, pre_releases);
     report_best(answer, place)
+}
+
+/// The shortest range that matches the same of several versions, one per line: yes, with its text, which is the range as it is
+/// written, or the ranges in which the versions match, in canonical form; or that the range is a tag. With an invalid version
+/// `place` is its line.
+#[unsafe(no_mangle)]
+pub extern "C" fn semver_simplify(
+    alloc: Global,
+    grammar: u32,
+    range: &[u8],
+    versions: &[u8],
+    pre_releases: u32,
+    out: &mut [u8],
+    needed: &mut usize,
+    place: &mut usize,
+) -> i32
+    ensures answer { IsReply (SimplifiesBy pre_releases grammar range.now versions.now) text_code
+        (or_message text_of) out.old out.new needed.new result }
+    ensures place { IsPlaceReply (SimplifiesBy pre_releases grammar range.now versions.now) no_place
+        place.old place.new result }
+{
+    let answer = simplified_of(alloc, grammar, range, versions, pre_releases);
+    put_place(&answer, place);
+    report_text_or_tag(answer, out, needed)
 }
 
 /// The places of several versions, one per line, in the order of precedence: yes. The place of the lowest comes first, places

@@ -20,7 +20,7 @@ ghost use Rattle.package_answers.specs.References.{ReferenceParts};
 ghost use Rattle.semver_c.specs.Arguments.{IsCallAnswer, IsCallOutcome, pre_release_by};
 ghost use Rattle.semver_c.specs.Codes.{match_code};
 ghost use Rattle.semver_c.specs.Held.{IsHeldBest, OfHeld, of_both, of_one};
-ghost use Rattle.semver_c.specs.Questions.{BestLine, ByOne, ByTwo, CoercesTo, CommonBy, CommonOfAll, EquivalentBy, ErrorsBy, ExplainsBy, ExportNameOf, Filters, Fits, IncrementBy, Lies, LowestBy, MatchesHeld, NumbersOf, OfText, OfTexts, OutsideBy, PackageErrorsBy, RangeBy, ReferenceErrorsOf, SortsOf, TagBy, VersionErrorOf, VersionListOf, WhyBy};
+ghost use Rattle.semver_c.specs.Questions.{BestLine, ByOne, ByTwo, CoercesTo, CommonBy, CommonOfAll, EquivalentBy, ErrorsBy, ExplainsBy, ExportNameOf, Filters, Fits, IncrementBy, Lies, LowestBy, MatchesHeld, NumbersOf, OfText, OfTexts, OutsideBy, PackageErrorsBy, RangeBy, ReferenceErrorsOf, SimplifiesBy, SortsOf, TagBy, VersionErrorOf, VersionListOf, WhyBy};
 
 use crate::arguments::{
     Problem, Subject, base_of, direction_of, line_list, parts, pre_release, release_type_of,
@@ -37,6 +37,7 @@ use answers::questions::{
     order, overlaps, sort_key, text_of_version, version_outside,
 };
 use answers::reading::{range, version};
+use answers::simplifying::simplified;
 use answers::sorting::{self, Order, sort};
 use answers::steps::{difference, incremented};
 use deno_semver::jsr::normalized_export_name;
@@ -186,6 +187,30 @@ pub fn best_line(
     best_match(
         alloc,
         end,
+        given.flavour,
+        pre_release,
+        given.one,
+        lines.as_slice(),
+    )
+    .map_err(Problem::from)
+}
+
+/// What is the shortest range that matches the same of the versions, one per line?
+pub fn simplified_of(
+    alloc: Global,
+    grammar: u32,
+    range: &[u8],
+    versions: &[u8],
+    pre_releases: u32,
+) -> Result<Answer<String>, Problem>
+    ensures { IsCallAnswer (SimplifiesBy pre_releases grammar range.now versions.now)
+        (λ answer. list_answer string_bytes answer) result }
+{
+    let given = with_texts(grammar, range, versions)?;
+    let lines = line_list(alloc, given.other)?;
+    let pre_release = pre_release(pre_releases);
+    simplified(
+        alloc,
         given.flavour,
         pre_release,
         given.one,
