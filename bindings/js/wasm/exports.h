@@ -80,6 +80,10 @@ EXPORT(int32_t, lowest)(uint32_t grammar, uint32_t range_len, uint32_t versions_
     return semver_lowest(grammar, TEXT(0, range_len), TEXT(range_len, versions_len), pre_releases, &place);
 }
 
+EXPORT(int32_t, simplify)(uint32_t grammar, uint32_t range_len, uint32_t versions_len, uint32_t pre_releases) {
+    WRITES(semver_simplify(grammar, TEXT(0, range_len), TEXT(range_len, versions_len), pre_releases, OUT, &needed, &place));
+}
+
 EXPORT(int32_t, package)(uint32_t grammar, uint32_t text_len) {
     WRITES(semver_package(grammar, TEXT(0, text_len), OUT, &needed));
 }

@@ -43,6 +43,7 @@ TABLE: Dict[str, Tuple[Any, ...]] = {
     "filter": (c_int32, c_uint32, *TEXT, *TEXT, c_uint32, *ANSWERS, SIZE),
     "best": (c_int32, c_uint32, *TEXT, *TEXT, c_uint32, SIZE),
     "lowest": (c_int32, c_uint32, *TEXT, *TEXT, c_uint32, SIZE),
+    "simplify": (c_int32, c_uint32, *TEXT, *TEXT, c_uint32, *TEXT, SIZE, SIZE),
     "sort": (c_int32, *TEXT, *PLACES, SIZE, SIZE),
     "package": (c_int32, c_uint32, *TEXT, *TEXT, SIZE),
     "why": (c_int32, c_uint32, c_uint32, *TEXT, *TEXT, SIZE),

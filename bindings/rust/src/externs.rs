@@ -20,6 +20,7 @@ calls! {
     fn semver_filter(grammar: u32, range: &str, versions: &str, pre_releases: u32, answers: &mut [i8], needed: &mut usize) -> i32;
     fn semver_best(grammar: u32, range: &str, versions: &str, pre_releases: u32, place: &mut usize) -> i32;
     fn semver_lowest(grammar: u32, range: &str, versions: &str, pre_releases: u32, place: &mut usize) -> i32;
+    fn semver_simplify(grammar: u32, range: &str, versions: &str, pre_releases: u32, out: &mut [u8], needed: &mut usize, place: &mut usize) -> i32;
     fn semver_sort(versions: &str, places: &mut [usize], needed: &mut usize, place: &mut usize) -> i32;
     fn semver_package(grammar: u32, text: &str, out: &mut [u8], needed: &mut usize) -> i32;
     fn semver_reference(text: &str, out: &mut [u8], needed: &mut usize) -> i32;
