@@ -38,10 +38,15 @@ struct Asker {
     left_out: Option<&'static str>,
 }
 
-// Who asks for a package by a range, and the ranges in the same order; and who asks by something else.
+// Who asks for a package by a range, and who by something else.
 struct Package {
     askers: Vec<Asker>,
+    /// The ranges, but for those of any version.
     reqs: Vec<VersionReq>,
+    /// The places of their askers.
+    places: Vec<usize>,
+    /// The ranges of any version, which exclude nothing.
+    any: Vec<VersionReq>,
     others: Vec<Asker>,
 }
 
@@ -50,10 +55,14 @@ impl Drop for Package {
         let Package {
             askers,
             reqs,
+            places,
+            any,
             others,
         } = self;
         drop(askers);
         drop(reqs);
+        drop(places);
+        drop(any);
         drop(others);
     }
 }
@@ -79,12 +88,24 @@ impl Package {
         }
     }
 
-    // The range at a place.
+    // The text of the range at a place among those that aren't of any version.
     fn range(&self, place: usize) -> &str {
+        let place = self.places.get(place).copied().unwrap_or(0);
         match self.askers.get(place) {
             Some(asker) => asker.range.as_str(),
             None => "",
         }
+    }
+
+    // Adds who asks for it by a range.
+    fn add(&mut self, alloc: Global, asker: Asker, req: VersionReq) -> Result<(), AllocError> {
+        let place = self.askers.len();
+        self.askers.push(asker)?;
+        if req.to_string_normalized(alloc)?.as_str() == "*" {
+            return Ok(self.any.push(req)?);
+        }
+        self.places.push(place)?;
+        Ok(self.reqs.push(req)?)
     }
 }
 
@@ -227,16 +248,15 @@ fn add(
         let package = Package {
             askers: Vec::new(alloc),
             reqs: Vec::new(alloc),
+            places: Vec::new(alloc),
+            any: Vec::new(alloc),
             others: Vec::new(alloc),
         };
         let _ = packages.insert(String::from_str(alloc, name)?, package)?;
     }
     if let Some(package) = packages.get_mut(name) {
         match req {
-            Some(req) => {
-                package.askers.push(asker)?;
-                package.reqs.push(req)?;
-            }
+            Some(req) => package.add(alloc, asker, req)?,
             None => package.others.push(asker)?,
         }
     }
@@ -270,7 +290,10 @@ fn agreed(
     package: &Package,
     pre_release: PreRelease,
 ) -> Result<Agreement, AllocError> {
-    let reqs = package.reqs.as_slice();
+    let mut reqs = package.reqs.as_slice();
+    if reqs.is_empty() {
+        reqs = package.any.as_slice();
+    }
     let lowest = match reqs.split_first() {
         Some((first, others)) if first.tag().is_none() && VersionReq::have_no_tag(others) => {
             first.common_version_of_all(alloc, others, pre_release)?

@@ -678,6 +678,11 @@ fn are_disjoint(alloc: Global, one: &str, other: &str) -> Result<bool, AllocErro
     )
 }
 
+// Whether npm accepts any version for the range, and pre-releases, too.
+fn is_any(range: &str) -> bool {
+    matches!(range.trim(), "" | "*")
+}
+
 // Reports that the entry asks for other versions than an entry of another section.
 fn check_sections<O: Write, E: Write>(
     console: &mut Console<O, E>,
@@ -690,6 +695,8 @@ fn check_sections<O: Write, E: Write>(
     }
     if let Some(range) = asked_range(entry)
         && let Some(other_range) = asked_range(other)
+        && !is_any(range)
+        && !is_any(other_range)
         && are_disjoint(console.alloc, range, other_range)?
     {
         let section = other.section;
