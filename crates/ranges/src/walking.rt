@@ -914,18 +914,33 @@ pub fn find<R: Runtime + AllocGlobal, O: Write, E: Write>(
     }
     add_import_maps(rt, all.groups.as_mut_slice())?;
     let Manifests { groups, status } = all;
-    let groups = without_repeated(alloc, groups)?;
+    let groups = without_repeated(rt, groups)?;
     Ok(Manifests { groups, status })
+}
+
+// The path of a file without links on the way; if the folder isn't there, the same path without `.` and `..`.
+fn real_path<R: Files + AllocGlobal>(rt: &R, path: &str) -> Result<String, AllocError> {
+    let alloc = rt.alloc();
+    if path == "-" {
+        return String::from_str(alloc, path);
+    }
+    let (folder, name) = split_path(path);
+    match fs::canonicalize(rt, shown_folder(folder)) {
+        Ok(real) => joined(alloc, real.as_str(), name),
+        Err(error) if error.kind() == ErrorKind::OutOfMemory => Err(AllocError),
+        Err(_) => normalized(alloc, path),
+    }
 }
 
 // A group without the files that one before it has, and with each of its own once. `seen` has the turns in which the paths came first. The
 // manifests of its folder still count for the others, as those above do.
-fn without_seen(
-    alloc: Global,
+fn without_seen<R: Files + AllocGlobal>(
+    rt: &R,
     seen: &mut HashMap<String, usize>,
     turn: usize,
     group: Group,
 ) -> Result<Group, AllocError> {
+    let alloc = rt.alloc();
     let Group {
         paths,
         own,
@@ -939,7 +954,7 @@ fn without_seen(
     for path in paths {
         let is_own = place < own;
         place = place.saturating_add(1);
-        let name = normalized(alloc, path.as_str())?;
+        let name = real_path(rt, path.as_str())?;
         let first = seen.get(name.as_str()).copied();
         match first {
             None => {
@@ -963,12 +978,20 @@ fn without_seen(
 }
 
 // The groups with each file once.
-fn without_repeated(alloc: Global, groups: Vec<Group>) -> Result<Vec<Group>, AllocError> {
+fn without_repeated<R: Files + AllocGlobal>(
+    rt: &R,
+    groups: Vec<Group>,
+) -> Result<Vec<Group>, AllocError> {
+    let alloc = rt.alloc();
+    // A folder has each of its files once.
+    if groups.len() == 1 && groups.iter().all(|group| group.own > 0) {
+        return Ok(groups);
+    }
     let mut seen = HashMap::new(alloc);
     let mut all = Vec::new(alloc);
     let mut turn = 0usize;
     for group in groups {
-        all.push(without_seen(alloc, &mut seen, turn, group)?)?;
+        all.push(without_seen(rt, &mut seen, turn, group)?)?;
         turn = turn.saturating_add(1);
     }
     Ok(all)
