@@ -873,10 +873,18 @@ fn check_entry<'e, O: Write, E: Write>(
             Some(message) => report.add(console, entry, Finding::new(Cause::Refused, message)),
             None => Ok(()),
         },
+        Kind::OddName if !file.is_own => {
+            let value = report.text.get(entry.start..).unwrap_or("");
+            match file.known.refusal_of_odd_name(value) {
+                Some(message) => report.add(console, entry, Finding::new(Cause::Refused, message)),
+                None => Ok(()),
+            }
+        }
         Kind::Workspace
         | Kind::Workspaces
         | Kind::Packages
         | Kind::Name
+        | Kind::OddName
         | Kind::ImportMap
         | Kind::Level
         | Kind::Setting

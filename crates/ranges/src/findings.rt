@@ -319,6 +319,7 @@ fn has_text(entry: &Entry) -> bool {
             | Kind::Odd(_)
             | Kind::OddSection(_)
             | Kind::OddSetting(_)
+            | Kind::OddName
             | Kind::Meta
             | Kind::Repeated
             | Kind::Setting

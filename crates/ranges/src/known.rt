@@ -169,9 +169,21 @@ impl Known {
         self.names.get(name).copied().unwrap_or(0) > 0
     }
 
+    /// Why npm refuses a value that isn't a string in place of the name of a workspace, if it does. This is the file from that value on.
+    pub fn refusal_of_odd_name(&self, value: &str) -> Option<&'static str> {
+        // Those are no name to npm, which then takes the folder's.
+        let is_none = value.starts_with("false") || value.starts_with('0');
+        if self.workspace != Workspace::Package || is_none {
+            None
+        } else {
+            Some("npm refuses it: must provide dependency name")
+        }
+    }
+
     /// Why npm refuses the name of a workspace, if it does.
     pub fn refusal_of_name(&self, name: &str) -> Option<&'static str> {
-        if self.workspace != Workspace::Package {
+        // A workspace with an empty name has that of its folder.
+        if self.workspace != Workspace::Package || name.is_empty() {
             None
         } else if !is_package_name(name) {
             Some("npm refuses it: no package has such a name")

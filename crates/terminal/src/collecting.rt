@@ -312,6 +312,11 @@ impl Collector {
         let place = self.place();
         let is_there = match (shape, place.text) {
             (Shape::Text, Some(text)) => return Ok(Some(text)),
+            (Shape::Null, Some((Kind::Name, _))) => return Ok(None),
+            (_, Some((Kind::Name, section))) if self.format == Format::Package => {
+                self.add_kind(index, Kind::OddName, section)?;
+                return Ok(None);
+            }
             (Shape::Object, Some((Kind::Meta, section))) => {
                 self.add_kind(index, Kind::Meta, section)?;
                 true

@@ -29,6 +29,8 @@ pub enum Kind {
     OddSetting(&'static str),
     /// The name of the package.
     Name,
+    /// Something else in place of that name.
+    OddName,
     /// A key of overrides: the name of a package, and perhaps a range behind an `@`. This text stands before another name, if one may follow.
     Override(&'static str),
     /// The object that workspaces may be.
