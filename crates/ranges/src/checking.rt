@@ -820,7 +820,12 @@ fn check_entry<'e, O: Write, E: Write>(
         // npm takes no overrides from a workspace.
         Kind::Dependency | Kind::Override(_) if is_ignored => Ok(()),
         Kind::Dependency => {
-            check_dependency(console, report, entry)?;
+            // Other package managers take `ssh:` from any host.
+            let is_of_other = names.is_of_npm == Some(false) || file.known.is_of_pnpm();
+            let is_taken = is_of_other && npm::is_refused_ssh(entry.text.as_str());
+            if !is_taken {
+                check_dependency(console, report, entry)?;
+            }
             check_relations(console, report, names, file, entry)
         }
         Kind::Range => check_dependency(console, report, entry),

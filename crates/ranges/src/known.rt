@@ -127,6 +127,11 @@ impl Known {
         }
     }
 
+    /// Whether the workspace is pnpm's.
+    pub fn is_of_pnpm(&self) -> bool {
+        self.workspace == Workspace::Pnpm
+    }
+
     /// Whether npm links a workspace with this name.
     pub fn is_linked(&self, name: &str) -> bool {
         self.is_whole && self.workspace == Workspace::Package && self.has_workspace(name)

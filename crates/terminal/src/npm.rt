@@ -205,6 +205,64 @@ fn host_of(url: &str) -> &str {
     path.split(['/', '?', '#'].as_slice()).next().unwrap_or("")
 }
 
+// The host of a URL of ssh and the path there, from what follows its `//`. A port follows a colon, or the path does.
+fn host_and_path(url: &str) -> (&str, &str) {
+    let place = url.split(['?', '#'].as_slice()).next().unwrap_or("");
+    let (front, _) = place.split_once('/').unwrap_or((place, ""));
+    let start = match front.rfind('@') {
+        Some(at) => at.saturating_add(1),
+        None => 0,
+    };
+    let place = place.get(start..).unwrap_or("");
+    let end = place.find([':', '/'].as_slice()).unwrap_or(place.len());
+    let (host, behind) = place.split_at_checked(end).unwrap_or((place, ""));
+    let Some(behind) = behind.strip_prefix(':') else {
+        return (host, behind.strip_prefix('/').unwrap_or(""));
+    };
+    let (port, path) = behind.split_once('/').unwrap_or((behind, ""));
+    if port.chars().all(|c| c.is_ascii_digit()) {
+        (host, path)
+    } else {
+        (host, behind)
+    }
+}
+
+// Whether a repository of GitLab, in groups, is at a path.
+fn is_of_gitlab(path: &str) -> bool {
+    let (user, name) = path.rsplit_once('/').unwrap_or(("", ""));
+    let is_archive = path.contains("/-/") || path.contains("/archive.tar.gz");
+    !user.is_empty() && !name.strip_suffix(".git").unwrap_or(name).is_empty() && !is_archive
+}
+
+// Whether npm finds a repository at this path of a host behind `ssh://`.
+fn has_repository(host: &str, path: &str) -> bool {
+    let mut parts = path.split('/');
+    let user = parts.next().unwrap_or("");
+    let name = parts.next().unwrap_or("");
+    let kind = parts.next().unwrap_or("");
+    let is_named = !name.strip_suffix(".git").unwrap_or(name).is_empty();
+    let is_there = !user.is_empty() && is_named;
+    match host.strip_prefix("www.").unwrap_or(host) {
+        "github.com" => is_there && matches!(kind, "" | "tree"),
+        "bitbucket.org" => is_there && kind != "get",
+        "gist.github.com" => (!user.is_empty() || !name.is_empty()) && kind != "raw",
+        "gitlab.com" => is_of_gitlab(path),
+        _ => false,
+    }
+}
+
+/// Whether a text has the protocol `ssh:` where npm refuses it; pnpm, yarn and Bun take it from any host.
+pub fn is_refused_ssh(text: &str) -> bool {
+    if behind_protocol(text, "ssh:").is_none() {
+        return false;
+    }
+    let Some(url) = text.strip_prefix("ssh://") else {
+        return true;
+    };
+    let (host, path) = host_and_path(url);
+    !has_repository(host, path) || has_bad_escape(url)
+}
+
 // Whether a text without its `#` is the place of a repository, or its name on GitHub.
 fn is_repository(text: &str) -> bool {
     if let Some(url) = behind_web(text) {
@@ -290,6 +348,9 @@ pub fn source_of(text: &str) -> Source<'_> {
             },
             _ => Source::Registry(range),
         };
+    }
+    if is_refused_ssh(text) {
+        return Source::Refused("npm refuses it: write `git+ssh:` in place of `ssh:`");
     }
     if lacks_host(text) {
         return Source::Refused("npm refuses it: the URL has no valid host");
