@@ -265,6 +265,17 @@ fn report_form<O: Write, E: Write>(
     report.tell(console, entry, Rule::NotCanonical, message)
 }
 
+// Whether an entry of engines keeps a package manager out by words, as `please-use-yarn` for npm does, and doesn't ask for a usual tag.
+fn keeps_out(entry: &Entry) -> bool {
+    let text = entry.text.as_str().trim();
+    let is_manager = matches!(entry.name.as_str(), "npm" | "pnpm" | "yarn");
+    let is_tag = matches!(text, "latest" | "lts" | "next" | "current" | "stable");
+    let mut chars = text.chars();
+    let is_letter = |c: Option<char>| c.is_some_and(|c| c.is_alphabetic());
+    let is_words = is_letter(chars.next()) && is_letter(chars.next());
+    entry.kind == Kind::Engine && is_manager && is_words && !is_tag
+}
+
 // Reports a text that isn't a range of this grammar. npm may take it for one, or for a tag.
 fn report_invalid<O: Write, E: Write>(
     console: &mut Console<O, E>,
@@ -293,6 +304,7 @@ fn report_invalid<O: Write, E: Write>(
             let message = "npm reads it as a tag: is a range meant?";
             report.add_with(console, entry, Cause::Rule(Rule::OddTag), message, &errors)
         }
+        (Kind::Engine, _, _) if keeps_out(entry) => Ok(()),
         (Kind::Engine, _, _) => {
             let message = "not a version range: no version satisfies it";
             report.add_with(
@@ -335,6 +347,9 @@ fn check_tag<O: Write, E: Write>(
             }
             Reading::Range | Reading::Tag => (),
         }
+    }
+    if keeps_out(entry) {
+        return Ok(());
     }
     if entry.kind == Kind::Engine {
         let message = "a tag, which no version satisfies";
