@@ -236,13 +236,13 @@ fn is_of_gitlab(path: &str) -> bool {
 
 // Whether npm finds a repository at this path of a host behind `ssh://`.
 fn has_repository(host: &str, path: &str) -> bool {
-    let mut parts = path.split('/');
-    let user = parts.next().unwrap_or("");
-    let name = parts.next().unwrap_or("");
-    let kind = parts.next().unwrap_or("");
+    let (user, rest) = path.split_once('/').unwrap_or((path, ""));
+    let (name, rest) = rest.split_once('/').unwrap_or((rest, ""));
+    let (kind, _) = rest.split_once('/').unwrap_or((rest, ""));
     let is_named = !name.strip_suffix(".git").unwrap_or(name).is_empty();
     let is_there = !user.is_empty() && is_named;
-    match host.strip_prefix("www.").unwrap_or(host) {
+    let host = host.strip_prefix("www.").unwrap_or(host);
+    match host {
         "github.com" => is_there && matches!(kind, "" | "tree"),
         "bitbucket.org" => is_there && kind != "get",
         "gist.github.com" => (!user.is_empty() || !name.is_empty()) && kind != "raw",
