@@ -17,7 +17,7 @@ PRE = {"restricted": False, "admitted": True}
 BASES = {"zero": 0, "one": 1, "nothing": None}
 # How many options, a grammar and which pre-releases match, stand before the texts of a call.
 OPTIONS = {
-    **dict.fromkeys(("fits", "above", "below", "filter", "best", "lowest", "within", "equivalent", "common", "common_all", "min_version", "explain", "scans"), 2),
+    **dict.fromkeys(("fits", "above", "below", "filter", "best", "lowest", "simplify", "within", "equivalent", "common", "common_all", "min_version", "explain", "scans"), 2),
     **dict.fromkeys(("intersects", "normal", "package", "equal", "is_tag", "ranges", "dependency", "errors", "package_errors"), 1),
     **dict.fromkeys(("sort", "increment", "coerce", "difference", "compare", "order", "version", "version_error", "may_be_tag", "reference", "reference_errors"), 0),
     **dict.fromkeys(("version_parts", "name_with_version", "version_reference", "export_name", "key"), 0),
@@ -163,6 +163,8 @@ def of_texts(name, texts, options):
     if name in ("best", "lowest"):
         lines = unique(listed(texts[1]))
         return place(lines, getattr(semver, name)(texts[0], lines, **options))
+    if name == "simplify":
+        return ["yes", semver.simplify(texts[0], listed(texts[1]), **options)]
     if name == "sort":
         lines = unique(listed(texts[0]))
         return places(lines, semver.sort(lines))
@@ -324,7 +326,7 @@ def is_same(name, way, got, wanted):
         return got == (wanted[:2] if name == "package" else wanted)
     code, message, index = got
     # A value knows no place among arguments, and a range that is the only one has none.
-    is_placed = way in ("of texts", "of lists") and name != "increment" and not (name in ("best", "lowest") and code == "invalid range")
+    is_placed = way in ("of texts", "of lists") and name != "increment" and not (name in ("best", "lowest", "simplify") and code == "invalid range")
     places = wanted[2:] if is_placed else []
     return wanted[:2] == [code, message] and places == ([] if index is None else [str(index)])
 

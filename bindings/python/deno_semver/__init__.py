@@ -55,6 +55,7 @@ from ._functions import (
     parse_package,
     parse_reference,
     parse_version_reference,
+    simplify,
     sort,
 )
 from ._lists import VersionList
@@ -111,5 +112,6 @@ __all__ = [
     "parse_package",
     "parse_reference",
     "parse_version_reference",
+    "simplify",
     "sort",
 ]

@@ -174,6 +174,25 @@ def lowest(
     return _best("lowest", range, versions, grammar, pre_releases, skip_invalid)
 
 
+def simplify(range: AnyRange, versions: Iterable[V], *, grammar: Optional[Grammar] = None, pre_releases: bool = False) -> str:
+    """A short range that matches the same of the versions: the range as you wrote it or, if that is shorter, the ranges in which they
+    match, in canonical form.
+
+    >>> simplify("1.2.0 || 1.3.0", ["1.1.0", "1.2.0", "1.3.0"])
+    '>=1.2.0'
+    """
+    source, text, number = range_text(range, "range", grammar)
+    listed, lines = version_lines(versions)
+    place = c_size_t()
+    arguments = (number, source, len(source), lines, len(lines), pre_number(pre_releases))
+    code, written = read("simplify", *arguments, after=(byref(place),))
+    if code == YES:
+        return written
+    if code == INVALID_VERSION:
+        return fail_version(code, str(listed[place.value]), place.value)
+    return fail_range(code, text, number)
+
+
 def sort(versions: Iterable[V], *, reverse: bool = False, skip_invalid: bool = False) -> List[V]:
     """The versions by precedence, the lowest first, or with `reverse` the highest. Those that differ only in the build keep their order.
 

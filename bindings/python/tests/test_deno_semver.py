@@ -126,6 +126,25 @@ class Values(unittest.TestCase):
         self.assertEqual(semver.filter("*", ["\n1.0.0\n", "1.1.0"]), ["\n1.0.0\n", "1.1.0"])
         self.assertEqual(semver.common("1 ||\n2", "2\n"), "2.0.0")
 
+    def test_simplify(self):
+        range_, texts = "1.2.0 || 1.3.0", ["1.3.0+b", "1.1.0", "\n1.2.0\r\n"]
+        versions = [Version(text) for text in texts]
+        for listed in (texts, iter(texts), versions, iter(versions), VersionList(versions)):
+            self.assertEqual(semver.simplify(range_, listed), ">=1.2.0")
+        self.assertEqual(semver.simplify(Range(range_, "normalized"), versions), ">=1.2.0")
+        self.assertEqual(semver.simplify(f"{range_} ||" * 20, []), f"{range_} ||" * 20)
+        pre = ["1.0.0-a", "1.2.0"]
+        answers = [semver.simplify(" || ".join(pre), pre, pre_releases=admitted) for admitted in (False, True)]
+        self.assertEqual(answers, ["1.0.0-a || 1.2.0", "*"])
+        self.assertRaises(semver.TagError, semver.simplify, "latest", versions)
+        with self.assertRaises(semver.InvalidRange) as caught:
+            semver.simplify("^1..2", ["x"])
+        self.assertEqual((caught.exception.text, caught.exception.index), ("^1..2", None))
+        for wrong, listed in (("1.x", ["1.2.0", "1.x", "x"]), ("\ud800", ["1.2.0", "\ud800"])):
+            with self.assertRaises(semver.InvalidVersion) as caught:
+                semver.simplify(range_, listed)
+            self.assertEqual((caught.exception.text, caught.exception.index), (wrong, 1))
+
     def test_many(self):
         versions = [f"{n % 7}.{n % 11}.{n}" for n in range(100_000)]
         self.assertEqual(len(semver.filter("^1.2 || 3", versions)), sum(n % 7 == 1 and n % 11 >= 2 or n % 7 == 3 for n in range(100_000)))
