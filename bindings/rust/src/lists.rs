@@ -1,6 +1,6 @@
 //! Questions about lists of versions.
 
-use crate::calls::{failed, lines, message, INVALID_RANGE, INVALID_VERSION, NO, TAG, YES};
+use crate::calls::{failed, lines, message, with_text, INVALID_RANGE, INVALID_VERSION, NO, TAG, YES};
 use crate::externs::*;
 use crate::raw::Versions;
 use crate::version_req::VersionReq;
@@ -37,6 +37,17 @@ pub enum Best {
     Nothing,
     /// The version at this index.
     At(usize),
+    /// The range is a tag.
+    Tag,
+    /// The version at this index is invalid.
+    Invalid(usize),
+}
+
+/// A short range that matches the same of a list.
+#[derive(Clone, Debug, PartialEq, Eq)]
+pub enum Simplified {
+    /// The range.
+    Range(String),
     /// The range is a tag.
     Tag,
     /// The version at this index is invalid.
@@ -112,6 +123,35 @@ pub fn lowest(
     let (versions, _) = lines(versions);
     let call = |place: &mut _| semver_lowest(grammar as u32, range, &versions, pre_release as u32, place);
     chosen(call).ok_or_else(|| invalid(grammar, range))
+}
+
+/// A short range that matches the same of the versions: the range as you wrote it or, if that is shorter, the ranges in which they match,
+/// in canonical form.
+///
+/// ```
+/// # use deno_semver_proved::{lists::{simplify, Simplified}, Grammar, PreRelease};
+/// let range = simplify(Grammar::Npm, "1.2.0 || 1.3.0", ["1.1.0", "1.2.0", "1.3.0"], PreRelease::Restricted).unwrap();
+/// assert_eq!(range, Simplified::Range(">=1.2.0".into()));
+/// ```
+pub fn simplify(
+    grammar: Grammar,
+    range: &str,
+    versions: impl IntoIterator<Item = impl Display>,
+    pre_release: PreRelease,
+) -> Result<Simplified, InvalidRange> {
+    let (versions, _) = lines(versions);
+    let mut place = 0;
+    let call = |out: &mut _, needed: &mut _| {
+        semver_simplify(grammar as u32, range, &versions, pre_release as u32, out, needed, &mut place)
+    };
+    let (code, text) = with_text(call, |code, text| (code, text.to_owned()));
+    match code {
+        YES => Ok(Simplified::Range(text)),
+        TAG => Ok(Simplified::Tag),
+        INVALID_VERSION => Ok(Simplified::Invalid(place)),
+        INVALID_RANGE => Err(InvalidRange { place, message: text }),
+        code => failed(code),
+    }
 }
 
 /// The indexes of the versions by precedence; versions that differ in the build alone keep their order. If a version is invalid, its index

@@ -3,7 +3,7 @@
 use deno_semver_proved::jsr::{
     normalized_export_name, JsrDepPackageReq, JsrDepPackageReqParseError, JsrPackageNvReference, JsrPackageReqReference,
 };
-use deno_semver_proved::lists::{self, Best, Fit, VersionList};
+use deno_semver_proved::lists::{self, Best, Fit, Simplified, VersionList};
 use deno_semver_proved::lowest::{self, Lowest};
 use deno_semver_proved::npm::{parse_npm_version, parse_npm_version_req, NpmPackageNvReference, NpmPackageReqReference};
 use deno_semver_proved::package::{
@@ -475,6 +475,25 @@ fn beyond_the_original() {
     assert_eq!(list.lowest(&npm("^1.3"), PreRelease::Restricted), Best::At(3));
     assert_eq!(list.sort(), [0, 3, 1]);
     assert_eq!(lists::sort(["2.0.0", "1.0.0"]), Ok(vec![1, 0]));
+}
+
+#[test]
+fn simplified_ranges() {
+    let (range, texts) = ("1.2.0 || 1.3.0", ["1.3.0+b", "1.1.0", "\n1.2.0\r\n"]);
+    let simplify = |range, versions: &[&str], pre_release| lists::simplify(Grammar::Npm, range, versions, pre_release);
+    let restricted = |range, versions| simplify(range, versions, PreRelease::Restricted);
+    let found = |range: &str| Ok(Simplified::Range(range.into()));
+    assert_eq!(restricted(range, &texts), found(">=1.2.0"));
+    let of_values = lists::simplify(Grammar::Normalized, range, texts.into_iter().map(version), PreRelease::Restricted);
+    assert_eq!(of_values, found(">=1.2.0"));
+    let long = [range; 20].join(" || ");
+    assert_eq!(restricted(&long, &[]), found(&long));
+    let pre = ["1.0.0-a", "1.2.0"];
+    assert_eq!(restricted("1.0.0-a || 1.2.0", &pre), found("1.0.0-a || 1.2.0"));
+    assert_eq!(simplify("1.0.0-a || 1.2.0", &pre, PreRelease::Admitted), found("*"));
+    assert_eq!(restricted("latest", &texts), Ok(Simplified::Tag));
+    assert_eq!(restricted("latest", &["1.2.0", "1.x", "x"]), Ok(Simplified::Invalid(1)));
+    assert_eq!(restricted("^1..2", &["x"]).unwrap_err().to_string(), "Invalid range 1: Unexpected character.");
 }
 
 #[test]

@@ -2,7 +2,7 @@
 //! differs or a block of the library is still alive at the end.
 
 use deno_semver_proved::jsr::normalized_export_name;
-use deno_semver_proved::lists::{self, Best, Fit, VersionList};
+use deno_semver_proved::lists::{self, Best, Fit, Simplified, VersionList};
 use deno_semver_proved::lowest::{self, Lowest};
 use deno_semver_proved::npm::is_valid_npm_tag;
 use deno_semver_proved::package::{json, PackageReq};
@@ -129,6 +129,14 @@ fn best(best: Result<Best, InvalidRange>) -> Answers {
         Best::At(place) => answer(&["yes", &place.to_string()]),
         Best::Tag => answer(&["tag"]),
         Best::Invalid(place) => answer(&["invalid version", &place.to_string()]),
+    }
+}
+
+fn simplified(simplified: Result<Simplified, InvalidRange>) -> Answers {
+    match simplified.map_err(invalid_range)? {
+        Simplified::Range(text) => answer(&["yes", &text]),
+        Simplified::Tag => answer(&["tag"]),
+        Simplified::Invalid(place) => answer(&["invalid version", &place.to_string()]),
     }
 }
 
@@ -313,6 +321,7 @@ fn ask_lists(question: &[&str]) -> Option<Answers> {
         ["filter", name, _, range, versions] => filter(grammar(name), range, versions, flag),
         ["best", name, _, range, versions] => best(lists::best(grammar(name), range, versions.lines(), flag)),
         ["lowest", name, _, range, versions] => best(lists::lowest(grammar(name), range, versions.lines(), flag)),
+        ["simplify", name, _, range, versions] => simplified(lists::simplify(grammar(name), range, versions.lines(), flag)),
         ["sort", versions] => sort(versions),
         ["list_best", grammar, _, requirement, versions] => {
             list_best(requirements(grammar, requirement), versions, |list, req| list.best(req, flag))
@@ -408,7 +417,7 @@ fn wanted(call: &str, answer: &str) -> String {
     match (call, &fields[..]) {
         ("package", ["yes", _, parts @ ..]) => ["yes", &parts.join(US)].join(US),
         // These have a place and no message.
-        ("best" | "lowest" | "sort", ["invalid version", _, place]) => ["invalid version", place].join(US),
+        ("best" | "lowest" | "simplify" | "sort", ["invalid version", _, place]) => ["invalid version", place].join(US),
         // These have a message and no place.
         (
             "intersects" | "equal" | "req_order" | "increment" | "difference" | "compare" | "order",
