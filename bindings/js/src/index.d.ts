@@ -223,6 +223,13 @@ export function best<T extends string | Version>(range: string | Range, versions
 /** The lowest version of the list that matches, the first of equal ones; undefined where none does. */
 export function lowest<T extends string | Version>(range: string | Range, versions: readonly T[], options?: Options & ListOptions): T | undefined;
 
+/**
+ * A short range that matches the same of the versions: the range as you wrote it or, if that is shorter, the ranges in which they match, in
+ * canonical form.
+ * @example simplify('1.2.0 || 1.3.0', ['1.1.0', '1.2.0', '1.3.0']) // '>=1.2.0'
+ */
+export function simplify(range: string | Range, versions: readonly (string | Version)[], options?: Options): string;
+
 /** A new list of the versions by precedence, the lowest first; equal ones stay in their order. */
 export function sort<T extends string | Version>(versions: readonly T[], options?: ListOptions): T[];
 

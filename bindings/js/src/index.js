@@ -6,7 +6,7 @@ import {
   kindOf, questionOf, reasonOf, versionText, withIndexes,
 } from './errors.js';
 import { askFits } from './held.js';
-import { filterList, findInList, linesOf, sortList } from './lists.js';
+import { filterList, findInList, linesOf, simplifyForList, sortList } from './lists.js';
 import { VersionList } from './ranges.js';
 import { askDifference, askIncrement, isReleaseType, nextVersion } from './steps.js';
 import { Version, compareTexts } from './versions.js';
@@ -81,6 +81,11 @@ export function lowest(range, versions, options) {
   const { source, grammar, name, pre } = questionOfOne(range, options, OF_LIST);
   if (!skipsInvalid(options)) return findInList(wasm.lowest, grammar, source, versions, pre);
   return askLenient(versions, (list) => list.lowest(source, { grammar: name, preReleases: pre === 1 }));
+}
+
+export function simplify(range, versions, options) {
+  const { source, grammar, pre } = questionOfOne(range, options);
+  return simplifyForList(grammar, source, versions, pre);
 }
 
 export function sort(versions, options) {

@@ -1,6 +1,6 @@
 // Lists of versions as texts with a line each.
 
-import { INVALID_VERSION, NO, YES, ask2, codes, places, wasm, write } from './calls.js';
+import { INVALID_VERSION, NO, YES, ask2, codes, places, text, wasm, write } from './calls.js';
 import { errorOf, kindOf, versionText } from './errors.js';
 
 /** Throws where the versions aren't an array. */
@@ -38,6 +38,14 @@ export function findInList(call, grammar, range, versions, pre) {
   const code = ask2(call, grammar, range, linesOf(texts), pre);
   if (code === NO) return undefined;
   if (code === YES) return versions[wasm.place()];
+  throw errorOf(code, grammar, [range], texts, invalidPlace(code), 'versions');
+}
+
+/** A short range that matches the same of the versions. */
+export function simplifyForList(grammar, range, versions, pre) {
+  const texts = textsOf(versions);
+  const code = ask2(wasm.simplify, grammar, range, linesOf(texts), pre);
+  if (code === YES) return text();
   throw errorOf(code, grammar, [range], texts, invalidPlace(code), 'versions');
 }
 

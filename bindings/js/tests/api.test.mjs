@@ -52,6 +52,24 @@ for (const [kind, semver] of [['ES modules', modules], ['CommonJS', common]]) {
     assert.equal(semver.best('*', [version]), version);
   });
 
+  test(`${kind}: simplify`, () => {
+    const [range, versions] = ['1.2.0 || 1.3.0', ['1.3.0+b', '1.1.0', '\n1.2.0\r\n']];
+    assert.equal(semver.simplify(range, versions), '>=1.2.0');
+    assert.equal(semver.simplify(range, versions.map((text) => new Version(text)), { grammar: 'normalized' }), '>=1.2.0');
+    const long = `${range} ||`.repeat(20);
+    assert.equal(semver.simplify(long, []), long);
+    const pre = ['1.0.0-a', '1.2.0'];
+    const answers = [false, true].map((preReleases) => semver.simplify('1.0.0-a || 1.2.0', pre, { preReleases }));
+    assert.deepEqual(answers, ['1.0.0-a || 1.2.0', '*']);
+    assert.equal(attempt(() => semver.simplify('latest', versions)).tag, 'latest');
+    const ofRange = attempt(() => semver.simplify('^1..2', ['x']));
+    assert.deepEqual([ofRange.name, ofRange.text, ofRange.index], ['RangeSyntaxError', '^1..2', undefined]);
+    for (const [wrong, ...rest] of [['1.x', 'x'], ['\ud800']]) {
+      const error = attempt(() => semver.simplify(range, ['1.2.0', wrong, ...rest]));
+      assert.deepEqual([error.name, error.text, error.index], ['VersionSyntaxError', wrong, 1]);
+    }
+  });
+
   test(`${kind}: a line break in a version is whitespace`, () => {
     const texts = ['1.2.0\n', '\r\n1.3.0', '1.2.\n0', ''];
     const isValid = (text) => semver.diagnose('*') === undefined && attempt(() => new Version(text)) === undefined;
@@ -165,6 +183,8 @@ for (const [kind, semver] of [['ES modules', modules], ['CommonJS', common]]) {
       [() => semver.filter('1', ['1.0.0', , '2.0.0']), 'versions[1] must be a string or a Version, not undefined'],
       [() => semver.sort([, '1.0.0']), 'versions[0] must be a string or a Version, not undefined'],
       [() => new VersionList([, '1.0.0']), 'versions[0] must be a string or a Version, not undefined'],
+      [() => semver.simplify('1', '1.0.0'), 'versions must be an array, not string'],
+      [() => semver.simplify('1', [], { skipInvalid: true }), 'options has no "skipInvalid"'],
       [() => semver.sort([], { preReleases: true }), 'options has no "preReleases"'],
       [() => semver.matches('1', '1.0.0', { skipInvalid: true }), 'options has no "skipInvalid"'],
       [() => semver.filter('1', [], { skipInvalid: 1 }), 'options.skipInvalid must be a boolean, not number'],
@@ -256,6 +276,7 @@ for (const [kind, semver] of [['ES modules', modules], ['CommonJS', common]]) {
       assert.equal(semver.matches(range('^1.2'), pre, { preReleases: true }), true);
       assert.deepEqual(semver.filter(range('^1'), versions), [two, three]);
       assert.deepEqual([semver.best(range('^1'), versions), semver.lowest(range('^1'), versions)], [three, two]);
+      assert.equal(semver.simplify(range('>=1.2.0 <=1.10.0', { preReleases: true }), versions), '<=1.10.0');
       assert.deepEqual(semver.sort([four, pre, two]), [two, pre, four]);
       assert.deepEqual([semver.compare(two, three), new Version('1.3.0').compare(three), `${new Version(two)}`], [-1, -1, '1.2.0']);
       assert.equal(semver.increment(two, 'minor'), '1.3.0');

@@ -82,6 +82,7 @@ static int32_t ask(void) {
     ASK(filter, FIRST, a, b, LAST);
     ASK(best, FIRST, a, b, LAST);
     ASK(lowest, FIRST, a, b, LAST);
+    ASK(simplify, FIRST, a, b, LAST);
     ASK(within, FIRST, a, b, LAST);
     ASK(common, FIRST, a, b, LAST);
     ASK(equivalent, FIRST, a, b, LAST);

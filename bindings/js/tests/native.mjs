@@ -24,6 +24,7 @@ const CALLS = {
   filter: ['range', 'versions', (g, a, b, last) => [g, a, b, last]],
   best: ['range', 'versions', (g, a, b, last) => [g, a, b, last]],
   lowest: ['range', 'versions', (g, a, b, last) => [g, a, b, last]],
+  simplify: ['range', 'versions', (g, a, b, last) => [g, a, b, last]],
   within: ['range', 'range', (g, a, b, last) => [g, a, b, last]],
   common: ['range', 'range', (g, a, b, last) => [g, a, b, last]],
   equivalent: ['range', 'range', (g, a, b, last) => [g, a, b, last]],

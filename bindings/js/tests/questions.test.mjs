@@ -53,6 +53,7 @@ const WITH_GRAMMAR = {
   },
   best: (o, range, text) => placeOr(linesOf(text), semver.best(range, linesOf(text), o)),
   lowest: (o, range, text) => placeOr(linesOf(text), semver.lowest(range, linesOf(text), o)),
+  simplify: (o, range, text) => ['yes', semver.simplify(range, linesOf(text), o)],
   list_best: (o, range, text) => listBest(o, range, text, 'best'),
   list_lowest: (o, range, text) => listBest(o, range, text, 'lowest'),
   intersects: (o, one, other) => yesIf(semver.intersects(one, other, o)),
