@@ -29,13 +29,14 @@ _HOLDING = Lock()  # threads may share a version, and only one of them may make 
 
 Grammar = Literal["npm", "normalized", "strict"]
 
-_PARTS = re.compile(r"[\d.]+(?:-([^+]*))?(?:\+(.*))?")
+# A version as the library displays it: its numbers, its pre-release and its build.
+_parts = re.compile(r"([0-9]+)\.([0-9]+)\.([0-9]+)(?:-([^+]*))?(?:\+(.*))?").fullmatch
 
-_NUMBER = r"(?:0|[1-9][0-9]{0,14})"
+_NUMBER = r"(0|[1-9][0-9]{0,14})"
 _IDENTIFIER = r"(?:0|[1-9][0-9]*|[0-9]*[A-Za-z-][A-Za-z0-9-]*)"
 # Versions as most are: by the strict grammar of SemVer, without a build, and with numbers of at most 15 digits. The library takes each of
 # them, and displays it as it stands, so it isn't asked.
-_is_plain = re.compile(rf"{_NUMBER}\.{_NUMBER}\.{_NUMBER}(?:-{_IDENTIFIER}(?:\.{_IDENTIFIER})*)?").fullmatch
+_plain = re.compile(rf"{_NUMBER}\.{_NUMBER}\.{_NUMBER}(?:-{_IDENTIFIER}(?:\.{_IDENTIFIER})*)?").fullmatch
 
 
 class Held:
@@ -90,8 +91,13 @@ class Version:
 
     def __new__(cls, text: str) -> Version:
         self = object.__new__(cls)
-        self._text = text if type(text) is str and _is_plain(text) else _displayed(text)
-        self._numbers = ()
+        parts = _plain(text) if type(text) is str else None
+        if parts is None:
+            text = _displayed(text)
+            parts = _parts(text)
+            assert parts is not None
+        self._text = text
+        self._numbers = tuple(map(int, parts.group(1, 2, 3)))
         self._held = None
         return self
 
@@ -115,40 +121,33 @@ class Version:
         """Whether the version has neither a pre-release nor a build."""
         return "-" not in self._text and "+" not in self._text
 
-    def _keep_numbers(self) -> Tuple[int, ...]:
-        """The three numbers, which are kept from the first time on."""
-        if not self._numbers:
-            numbers = self._text if self._is_release() else self._text.partition("+")[0].partition("-")[0]
-            self._numbers = tuple(map(int, numbers.split(".")))
-        return self._numbers
-
     def _part(self, number: int) -> str:
-        parts = _PARTS.fullmatch(self._text)
+        parts = _parts(self._text)
         assert parts is not None
-        return parts.group(number) or ""
+        return parts[number] or ""
 
     @property
     def major(self) -> int:
-        return (self._numbers or self._keep_numbers())[0]
+        return self._numbers[0]
 
     @property
     def minor(self) -> int:
-        return (self._numbers or self._keep_numbers())[1]
+        return self._numbers[1]
 
     @property
     def patch(self) -> int:
-        return (self._numbers or self._keep_numbers())[2]
+        return self._numbers[2]
 
     @property
     def pre(self) -> Tuple[str, ...]:
         """The identifiers of the pre-release."""
-        pre = self._part(1)
+        pre = self._part(4)
         return tuple(pre.split(".")) if pre else ()
 
     @property
     def build(self) -> Tuple[str, ...]:
         """The identifiers of the build."""
-        build = self._part(2)
+        build = self._part(5)
         return tuple(build.split(".")) if build else ()
 
     @property
@@ -181,7 +180,7 @@ class Version:
     def __lt__(self, other: object) -> bool:
         if not isinstance(other, Version):
             return NotImplemented
-        one, two = self._numbers or self._keep_numbers(), other._numbers or other._keep_numbers()
+        one, two = self._numbers, other._numbers
         if one != two:
             return one < two
         return self._text != other._text and CALLS["version_order"](self._lent(), other._lent()) == 0
@@ -199,7 +198,7 @@ class Version:
         """
         if not isinstance(other, Version):
             wrong_type(other, "other", "Version")
-        one, two = self._keep_numbers(), other._keep_numbers()
+        one, two = self._numbers, other._numbers
         if one != two:
             return one < two
         return self._text != other._text and CALLS["version_compare"](self._lent(), other._lent()) == 0
@@ -307,7 +306,7 @@ class Range:
         flag = pre_number(pre_releases)
         if isinstance(version, Version):
             if version._is_release():
-                return self._answer(CALLS["req_matches_release"](self._held.lent(), *version._keep_numbers()), str(version))
+                return self._answer(CALLS["req_matches_release"](self._held.lent(), *version._numbers), str(version))
             return self._answer(CALLS["req_matches"](self._held.lent(), version._lent(), flag), str(version))
         source = encoded(version, "version", InvalidVersion)
         return self._answer(CALLS["req_fits"](self._held.lent(), source, len(source), flag), version)

@@ -163,7 +163,7 @@ class Plain(unittest.TestCase):
             text = ".".join(pick.choices(numbers, k=count))
             if pick.randrange(2):
                 text += "-" + ".".join(pick.choices(identifiers, k=pick.randrange(4)))
-            if _values._is_plain(text):
+            if _values._plain(text):
                 plain += 1
                 source = text.encode()
                 self.assertEqual(_calls.read("version", source, len(source)), (_calls.YES, text), text)
@@ -171,9 +171,9 @@ class Plain(unittest.TestCase):
 
     def test_which(self):
         for text in ("1.2.3", "0.0.0", "999999999999999.0.0", "1.2.3-0", "1.2.3-rc.1", "1.2.3--", "1.2.3-0a.18446744073709551616"):
-            self.assertTrue(_values._is_plain(text), text)
+            self.assertTrue(_values._plain(text), text)
         for text in ("1.2", "1.2.3.4", "01.2.3", "1.2.03", "1.2.3-01", "1.2.3-", "1.2.3+b", "v1.2.3", " 1.2.3", "1.2.3\n", "1000000000000000.0.0"):
-            self.assertFalse(_values._is_plain(text), text)
+            self.assertFalse(_values._plain(text), text)
 
     def test_no_call(self):
         with mock.patch.dict(_calls.CALLS, dict.fromkeys(_calls.CALLS)):
