@@ -88,6 +88,8 @@ print('import, in a fresh process', ...modules.map((_, index) => shown(Math.min(
 each('a version and a held range', (i) => range.matches(item(i)), there((i) => others.test(item(i))));
 both(each, 'two texts, satisfies', (library, i) => library.satisfies(item(i), RANGE));
 each('two texts, matches', (i) => semver.matches(RANGE, item(i)));
+both(each, 'a new range, satisfies', (library, i) => library.satisfies(item(i), `^1.${i}.0`));
+each('a new range, matches', (i) => semver.matches(`^1.${i}.0`, item(i)));
 each('compare two held versions', comparing(held), comparing(semvers[1]));
 each('compare two held SemVers', ...semvers.map(comparing));
 both(each, 'compare', (library, i) => library.compare(item(i), '1.2.3'));
