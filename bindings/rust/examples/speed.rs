@@ -88,6 +88,21 @@ fn versions() {
     });
 }
 
+/// What is slower where each version is a pre-release.
+fn pre_releases() {
+    let texts: Vec<String> = texts(|n, version| format!("{}-rc.{}", version.split('-').next().unwrap_or(""), n % 9));
+    let versions: Vec<Version> = texts.iter().map(|text| Version::parse_standard(text).unwrap()).collect();
+    let req = VersionReq::parse_from_npm("^1.2").unwrap();
+    each("pre-releases alone: parse", &texts, |text| Version::parse_standard(text));
+    each("pre-releases alone: match", &versions, |version| req.matches(version));
+    each("pre-releases alone: parse and match once", &texts, |text| req.matches(&Version::parse_standard(text).unwrap()));
+    time("pre-releases alone: sort", COUNT, || {
+        let mut list = versions.clone();
+        list.sort();
+        black_box(list);
+    });
+}
+
 fn requirements() {
     let texts = texts(range);
     let reqs: Vec<VersionReq> = texts.iter().map(|text| VersionReq::parse_from_npm(text).unwrap()).collect();
@@ -123,6 +138,7 @@ fn packages() {
 
 fn main() {
     versions();
+    pre_releases();
     requirements();
     packages();
 }
