@@ -1,4 +1,4 @@
--- The shortest range that matches the same of several versions. Source: node-semver's documentation of `simplifyRange`. What is ours: the
+-- A short range that matches the same of several versions. Source: node-semver's documentation of `simplifyRange`. What is ours: the
 -- range that is made matches the same of the versions, which is checked; and a list without versions changes nothing.
 use Rattle.std.specs.Prelude.{◌≡◌, ◌==◌, ◌&&◌, ℕ, Bool, false, List, None, Result, Ok, IsPermutation, IsSorted, if◌then◌else◌, is_none, length, nat_lt, not}
 use Rattle.std.specs.List.{list_all}

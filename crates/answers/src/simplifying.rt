@@ -1,4 +1,4 @@
-//! The shortest range that matches the same of several versions, as node-semver's `simplifyRange` has it.
+//! A short range that matches the same of several versions, as node-semver's `simplifyRange` makes it.
 
 ghost use Rattle.std.specs.Prelude.{◌≡◌, None, false, string_bytes};
 ghost use Rattle.std.specs.List.{list_all};
@@ -28,7 +28,8 @@ fn match_alike(
 ) -> bool
     requires one_is_no_tag { tag_of one.now.inner ≡ None }
     requires other_is_no_tag { tag_of other.now.inner ≡ None }
-    ensures { result ≡ list_all (match_alike pre_release one.now.inner other.now.inner) versions.now }
+    ensures { result
+        ≡ list_all (match_alike pre_release one.now.inner other.now.inner) versions.now }
 {
     for version in versions {
         let matches = one.matches_with(version, pre_release);
@@ -63,8 +64,8 @@ fn matches_same(
     }
 }
 
-/// What is the shortest range that matches the same of the versions: the range as it is written, or the ranges in which they
-/// match, in canonical form?
+/// What is a short range that matches the same of the versions? It is the shorter of two: the range as it is written, and the ranges in
+/// which the versions match, in canonical form, if they match the same when parsed again. The first invalid argument is the problem.
 pub fn simplified(
     alloc: Global,
     flavour: Flavour,
