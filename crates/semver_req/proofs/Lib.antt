@@ -62,6 +62,7 @@ pub mod RuleFacts
 pub mod GrammarFacts
 pub mod GrammarParts
 pub mod Endings
+pub mod ListedFronts
 pub mod ViableParts
 pub mod Alternatives
 pub mod KindTexts

@@ -119,18 +119,21 @@ module _ (R : List ℕ → List Comparator → Type 0) {text : List ℕ} (cs : L
 
 -- ---- shorter prefixes of viable prefixes
 
+pub two_parts : (text : List ℕ) (m n : ℕ) → m ≤ n → n ≤ length text → take m text ++ take (n - m) (drop m text) ≡ take n text
+two_parts text m n le fits =
+    let k : m + (n - m) ≡ n = omega arith in
+    let first : take m text ≡ take m (take n text) = ap (take m) (sym (take-append-drop n text)) ∙ take-append-le m (take n text) (drop n text) (omega (arith, length-take-le n text fits)) in
+    let second : drop m (take n text) ≡ take (n - m) (drop m text) = rw k at (drop-take m (n - m) text) in
+    ap (λ t. t ++ take (n - m) (drop m text)) first ∙ (ap (λ t. take m (take n text) ++ t) (sym second) ∙ take-append-drop m (take n text))
+
 module _ {V : Type 0} {R : List ℕ → V → Type 0} where
   pub shorter_viable : (text : List ℕ) (m n : ℕ) → IsUtf8 text → IsCharBoundary text m → IsCharBoundary text n → m ≤ n → IsViablePrefix R (take n text) → IsViablePrefix R (take m text)
   shorter_viable text m n u bm bn le v =
-      let k : m + (n - m) ≡ n = omega arith in
-      let first : take m text ≡ take m (take n text) = ap (take m) (sym (take-append-drop n text)) ∙ take-append-le m (take n text) (drop n text) (omega (arith, length-take-le n text bn.0)) in
-      let second : drop m (take n text) ≡ take (n - m) (drop m text) = rw k at (drop-take m (n - m) text) in
-      let whole : take m text ++ take (n - m) (drop m text) ≡ take n text = ap (λ t. t ++ take (n - m) (drop m text)) first ∙ (ap (λ t. take m (take n text) ++ t) (sym second) ∙ take-append-drop m (take n text)) in
       record {
         more = take (n - m) (drop m text) ++ v.more;
         value = v.value;
         is_text = IsUtf8-append (take (n - m) (drop m text)) v.more (IsUtf8-between text m n u le bm bn) v.is_text;
-        stands = subst (λ t. R t v.value) (ap (λ t. t ++ v.more) (sym whole) ∙ append_assoc (take m text) (take (n - m) (drop m text)) v.more) v.stands;
+        stands = subst (λ t. R t v.value) (ap (λ t. t ++ v.more) (sym (two_parts text m n le bn.0)) ∙ append_assoc (take m text) (take (n - m) (drop m text)) v.more) v.stands;
       }
 
   pub whole_viable : (text : List ℕ) (n : ℕ) → length text ≤ n → IsViablePrefix R (take n text) → IsViablePrefix R text
@@ -162,6 +165,11 @@ admitted_fits p m e h = elim (cases_Bool (partial_fits p)) [
 fits_admitted : (p : Partial) (m : Measured Partial) → m ≡ sized_partial p → partial_fits p ≡ true → admits Fitting m ≡ true
 fits_admitted p m e fit = let small : m ≡ Fits p = e ∙ rw fit refl in rw small refl
 
+-- of a comparator whose partial version is admitted
+pub admitted : (sizes : Sizes) (written : Written) (p : Partial) → written.partial ≡ sized_partial p → admits sizes written.partial ≡ true → AreOf sizes (comparator_of written.operator p ∷ [])
+admitted Any written p seen h = free_list (comparator_of written.operator p ∷ [])
+admitted Fitting written p seen h = (comparator_in (comparator_of written.operator p) (comparator_all written.operator p ∙ admitted_fits p written.partial seen h), tt)
+
 -- ---- ranges of specifiers
 
 pub none_range : (sizes : Sizes) {text : List ℕ} → HasNone IsSpecifierRange text → IsTrue false ↔ HasRange sizes text
@@ -174,10 +182,6 @@ front_range sizes {text} {rest} {written} {b} {c} e g f = (forward, backward)
     it : Comparator
     it = comparator_of written.operator f.partial
 
-    admitted : (s : Sizes) → admits s written.partial ≡ true → AreOf s (it ∷ [])
-    admitted Any h = free_list (it ∷ [])
-    admitted Fitting h = (comparator_in it (comparator_all written.operator f.partial ∙ admitted_fits f.partial written.partial f.seen h), tt)
-
     admitting : (s : Sizes) → AreOf s (it ∷ []) → admits s written.partial ≡ true
     admitting Any h = refl
     admitting Fitting h = fits_admitted f.partial written.partial f.seen (sym (comparator_all written.operator f.partial) ∙ in_comparator it h.0)
@@ -187,7 +191,7 @@ front_range sizes {text} {rest} {written} {b} {c} e g f = (forward, backward)
         let both = and_parts b c t in
         let nil : rest ≡ [] = nil_from_length rest (none_left rest e both.0) in
         let whole : text ≡ f.longest.front = f.longest.text_is ∙ (ap (λ t. f.longest.front ++ t) nil ∙ append-nil f.longest.front) in
-        (it ∷ [], sized (IsPart Specifier) (it ∷ []) sizes (record { value = it; stands = rw whole f.longest.stands; is = refl }) (admitted sizes (sym g ∙ both.1)))
+        (it ∷ [], sized (IsPart Specifier) (it ∷ []) sizes (record { value = it; stands = rw whole f.longest.stands; is = refl }) (admitted sizes written f.partial f.seen (sym g ∙ both.1)))
 
     backward : HasRange sizes text → IsTrue (b && c)
     backward h =

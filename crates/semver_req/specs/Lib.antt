@@ -18,6 +18,7 @@ pub mod TextRejection
 pub mod Written
 pub mod Sizes
 pub mod Viable
+pub mod Fronts
 pub mod Alternatives
 pub mod Kinds
 pub mod Causes

@@ -4,7 +4,7 @@ ghost use Rattle.std.specs.Prelude.{◌≡◌, IfOk};
 ghost use Rattle.semver_req.specs.Kinds.{IsExpectation, kind_text};
 
 use crate::common::values::Flavour;
-use crate::error_places::{Sizes, is_piece, is_range, may_follow};
+use crate::error_places::{Grammar, Sizes, front_of, is_piece, is_range, is_viable_with};
 use std::alloc::{AllocError, Global};
 
 /// Texts that may follow the same prefixes.
@@ -115,9 +115,13 @@ pub fn expected_after(alloc: Global, prefix: &str, flavour: Flavour) -> Result<E
         Flavour::Normal => is_piece(alloc, prefix, false, Flavour::Normal, Sizes::Any)?,
         Flavour::Specifier => is_range(alloc, prefix, Sizes::Any)?,
     };
+    let grammar = Grammar::Ranges(flavour, Sizes::Any);
+    let behind = front_of(alloc, prefix, grammar)?;
+    let front = &prefix[..behind];
+    let rest = &prefix[behind..];
     let mut kinds = Vec::new(alloc);
     for kind in &KINDS {
-        if !may_follow(alloc, prefix, kind.text(), flavour)? {
+        if !is_viable_with(alloc, front, rest, kind.text(), grammar)? {
             continue;
         }
         kinds.push(*kind)?;

@@ -106,7 +106,7 @@ impl RangeOrInvalid {
 
     // Parses the whole piece as comparators.
     #[inline(always)]
-    fn list(
+    pub(crate) fn list(
         alloc: Global,
         piece: &str,
         flavour: Flavour,

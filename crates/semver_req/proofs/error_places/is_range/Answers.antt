@@ -1,5 +1,3 @@
-use Rattle.std.proofs.Common.{◌≡◌, rules}
-use Rattle.semver_req.specs.Sizes.{admits}
 use Rattle.semver_req.proofs.ViableParts.{front_range, none_range}
 use Rattle.semver_req.proofs.error_places.is_range.Goals as goal
 
@@ -8,10 +6,8 @@ returns-in_default c = none_range c.args.sizes (rw c.in_default.is at c.in_ok-wr
 
 pub returns-then-is_empty : goal.returns-then-is_empty
 returns-then-is_empty c =
-    let admitted : c.match-sizes.is_admitted ≡ admits c.args.sizes c.in-Some.written.partial = search rules in
-    front_range c.args.sizes c.if-is_empty.ensures admitted (rw c.in-Some.is at c.in_ok-written.ensures)
+    front_range c.args.sizes c.if-is_empty.ensures c.is_admitted-is_admitted.ensures (rw c.in-Some.is at c.in_ok-written.ensures)
 
 pub returns : goal.returns
 returns c =
-    let admitted : c.match-sizes.is_admitted ≡ admits c.args.sizes c.in-Some.written.partial = search rules in
-    front_range c.args.sizes c.if-is_empty.ensures admitted (rw c.in-Some.is at c.in_ok-written.ensures)
+    front_range c.args.sizes c.if-is_empty.ensures c.is_admitted-is_admitted.ensures (rw c.in-Some.is at c.in_ok-written.ensures)

@@ -5,6 +5,7 @@ use Rattle.semver_req.proofs.error_places.longest_viable.Given as goal
 
 abbrev pub invariant-loop-high : goal.invariant-loop-high
 invariant-loop-high l = record {
+  starts : l.behind ≤ l.low;
   order : l.low < l.high;
   within : l.high ≤ length l.text;
   below : (n : ℕ) → IsCharBoundary l.text n → n ≤ l.low → IsViablePrefix (IsTextOf l.grammar) (take n l.text);
