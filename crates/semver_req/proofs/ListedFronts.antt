@@ -124,11 +124,13 @@ module _ (f : Flavour) (sizes : Sizes) where
             (r.others, sized (IsComparators f) r.others sizes r.stands (subst (AreOf sizes) r.is k.1).1)
 
     chain_on : {front : List ℕ} → IsChain f sizes front → IsChain f sizes (front ++ (it.item ++ it.separator))
-    chain_on {front} chain = record { lists = λ more l.
-      let inner = with_item more l in
-      let outer = chain.lists (it.item ++ (it.separator ++ more)) (leads_there f it.item (it.separator ++ more) it.value it.is_item) in
-      let whole : (front ++ (it.item ++ it.separator)) ++ more ≡ front ++ (it.item ++ (it.separator ++ more)) = append_assoc front (it.item ++ it.separator) more ∙ ap (λ t. front ++ t) (append_assoc it.item it.separator more) in
-      rw whole (λ h. outer.0 (inner.0 h), λ h. inner.1 (outer.1 h)) }
+    chain_on {front} chain = record {
+      lists = λ more l.
+          let inner = with_item more l in
+          let outer = chain.lists (it.item ++ (it.separator ++ more)) (leads_there f it.item (it.separator ++ more) it.value it.is_item) in
+          let whole : (front ++ (it.item ++ it.separator)) ++ more ≡ front ++ (it.item ++ (it.separator ++ more)) = append_assoc front (it.item ++ it.separator) more ∙ ap (λ t. front ++ t) (append_assoc it.item it.separator more) in
+          rw whole (λ h. outer.0 (inner.0 h), λ h. inner.1 (outer.1 h));
+    }
 
 -- a front that begins with two comparators
 pub record IsLong (f : Flavour) (sizes : Sizes) (front : List ℕ) : Type 0 where
@@ -190,9 +192,11 @@ module _ (f : Flavour) (sizes : Sizes) where
     list_piece followed text (cs, h) = let k = unsized (IsComparators f) cs sizes h in (cs, sized (IsAnyPiece f followed) cs sizes (inl (filled_piece f cuts text cs (list_filled cuts text cs k.0))) k.1)
 
     pub front_of_lists : IsFrontOfLists f sizes front
-    front_of_lists = record { behind = λ followed text l.
-      let both = long.chain.lists text l in
-      (λ h. list_piece followed (front ++ text) (both.0 h), λ h. let k = unsized (IsAnyPiece f followed) h.0 sizes h.1 in both.1 (piece_list followed text h.0 k.0 k.1)) }
+    front_of_lists = record {
+      behind = λ followed text l.
+          let both = long.chain.lists text l in
+          (λ h. list_piece followed (front ++ text) (both.0 h), λ h. let k = unsized (IsAnyPiece f followed) h.0 sizes h.1 in both.1 (piece_list followed text h.0 k.0 k.1));
+    }
 
 -- ---- what the parser of lists returns
 

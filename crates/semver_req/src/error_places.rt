@@ -74,12 +74,7 @@ fn is_piece(
 }
 
 // Whether the text is comparators with separators between them.
-fn is_list(
-    alloc: Global,
-    text: &str,
-    flavour: Flavour,
-    sizes: Sizes,
-) -> Result<bool, AllocError>
+fn is_list(alloc: Global, text: &str, flavour: Flavour, sizes: Sizes) -> Result<bool, AllocError>
     ensures { IfOk result (λ yes. IsTrue yes ↔ HasList flavour sizes text.now) }
 {
     match RangeOrInvalid::list(alloc, text, flavour)? {
@@ -124,7 +119,7 @@ fn is_piece_with(
     requires { IsBehind flavour sizes front.now prefix.now }
     ensures { IfOk result
         (λ yes. IsTrue yes
-            ↔ HasPiece flavour sizes false ((front.now ++ prefix.now) ++ ending.now)) }
+        ↔ HasPiece flavour sizes false ((front.now ++ prefix.now) ++ ending.now)) }
 {
     let text = format!(in alloc; "{prefix}{ending}")?;
     is_piece_behind(alloc, front, &text, false, flavour, sizes)
@@ -303,12 +298,7 @@ fn is_viable_version(alloc: Global, prefix: &str) -> Result<bool, AllocError>
 }
 
 // Whether some text of the grammar begins with the front and then the prefix.
-fn is_viable(
-    alloc: Global,
-    front: &str,
-    prefix: &str,
-    grammar: Grammar,
-) -> Result<bool, AllocError>
+fn is_viable(alloc: Global, front: &str, prefix: &str, grammar: Grammar) -> Result<bool, AllocError>
     requires { StandsBehind grammar front.now prefix.now }
     ensures { IfOk result (λ yes. IsTrue yes
         ↔ IsViablePrefix (IsTextOf grammar) (front.now ++ prefix.now)) }
@@ -390,7 +380,13 @@ pub fn may_follow(
     ensures { IfOk result
         (λ yes. IsTrue yes ↔ IsViablePrefix (IsPart flavour) (prefix.now ++ next.now)) }
 {
-    is_viable_with(alloc, "", prefix, next, Grammar::Ranges(flavour, Sizes::Any))
+    is_viable_with(
+        alloc,
+        "",
+        prefix,
+        next,
+        Grammar::Ranges(flavour, Sizes::Any),
+    )
 }
 
 /// The index in the text at which it stops being a version: the end of the longest prefix with which some version's text begins, with
