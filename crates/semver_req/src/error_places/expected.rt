@@ -4,7 +4,7 @@ ghost use Rattle.std.specs.Prelude.{◌≡◌, IfOk};
 ghost use Rattle.semver_req.specs.Kinds.{IsExpectation, kind_text};
 
 use crate::common::values::Flavour;
-use crate::error_places::{Grammar, Sizes, front_of, is_piece, is_range, is_viable_with};
+use crate::error_places::{Grammar, Sizes, front_of, is_piece_behind, is_range, is_viable_with};
 use std::alloc::{AllocError, Global};
 
 /// Texts that may follow the same prefixes.
@@ -110,15 +110,15 @@ pub struct Expected {
 pub fn expected_after(alloc: Global, prefix: &str, flavour: Flavour) -> Result<Expected, AllocError>
     ensures { IfOk result (IsExpectation flavour prefix.now) }
 {
-    let may_end = match flavour {
-        Flavour::Npm => is_piece(alloc, prefix, false, Flavour::Npm, Sizes::Any)?,
-        Flavour::Normal => is_piece(alloc, prefix, false, Flavour::Normal, Sizes::Any)?,
-        Flavour::Specifier => is_range(alloc, prefix, Sizes::Any)?,
-    };
     let grammar = Grammar::Ranges(flavour, Sizes::Any);
     let behind = front_of(alloc, prefix, grammar)?;
     let front = &prefix[..behind];
     let rest = &prefix[behind..];
+    let may_end = match flavour {
+        Flavour::Npm => is_piece_behind(alloc, front, rest, false, Flavour::Npm, Sizes::Any)?,
+        Flavour::Normal => is_piece_behind(alloc, front, rest, false, Flavour::Normal, Sizes::Any)?,
+        Flavour::Specifier => is_range(alloc, prefix, Sizes::Any)?,
+    };
     let mut kinds = Vec::new(alloc);
     for kind in &KINDS {
         if !is_viable_with(alloc, front, rest, kind.text(), grammar)? {

@@ -33,11 +33,13 @@ loop-kind-preserved c =
     rw pushed (next_expected c.args.flavour c.args.prefix.now all_kinds l.kinds.items l.kind-index _ c.loop-kind-test.true l.invariant is (expected c.args.flavour c.args.prefix.now _ _ (rw (c.text.ensures.text, whole) at c.in_ok-is_viable_with.ensures)))
 
 pub returns : goal.returns
-returns c = record {
-  kinds = rw (take_all c.loop-kind.kind-index all_kinds c.loop-kind-test.false) at c.loop-kind.invariant;
-  ends = elim c.match-flavour.branch [
-    | in-Npm+in_ok-may_end-in-Npm w ↦ rw (w.may_end-is, w.in-Npm.is) w.in_ok-may_end-in-Npm.ensures
-    | in-Normal+in_ok-may_end-in-Normal w ↦ rw (w.may_end-is, w.in-Normal.is) w.in_ok-may_end-in-Normal.ensures
-    | in-Specifier+in_ok-may_end-in-Specifier w ↦ rw (w.may_end-is, w.in-Specifier.is) w.in_ok-may_end-in-Specifier.ensures
-  ];
-}
+returns c =
+    let whole : c.range-front.result.now ++ c.range_from-rest.result.now ≡ c.args.prefix.now = rw (c.range-front.ensures.value ∙ slice_front c.args.prefix.now c.in_ok-behind.behind, c.range_from-rest.ensures.value) (take-append-drop c.in_ok-behind.behind c.args.prefix.now) in
+    record {
+      kinds = rw (take_all c.loop-kind.kind-index all_kinds c.loop-kind-test.false) at c.loop-kind.invariant;
+      ends = elim c.match-flavour.branch [
+        | in-Npm+in_ok-may_end-in-Npm w ↦ rw (w.may_end-is, w.in-Npm.is) (rw whole at w.in_ok-may_end-in-Npm.ensures)
+        | in-Normal+in_ok-may_end-in-Normal w ↦ rw (w.may_end-is, w.in-Normal.is) (rw whole at w.in_ok-may_end-in-Normal.ensures)
+        | in-Specifier+in_ok-may_end-in-Specifier w ↦ rw (w.may_end-is, w.in-Specifier.is) w.in_ok-may_end-in-Specifier.ensures
+      ];
+    }
