@@ -29,12 +29,13 @@ fn all_match(ranges: &[VersionReq], version: &Version, pre_release: PreRelease) 
     ranges.iter().all(|range| range.tag().is_none() && range.matches_with(version, pre_release))
 }
 
-// Prints each version that all ranges match.
+// Prints each version that all ranges match, or each that they don't.
 #[derive(Drop)]
 struct Filtering<'a> {
     ranges: &'a [VersionReq],
     pre_release: PreRelease,
-    has_match: bool,
+    is_inverted: bool,
+    has_printed: bool,
 }
 
 impl Take for Filtering<'_> {
@@ -44,8 +45,8 @@ impl Take for Filtering<'_> {
         text: &str,
         version: Version,
     ) -> Result<(), Stop> {
-        if all_match(self.ranges, &version, self.pre_release) {
-            self.has_match = true;
+        if all_match(self.ranges, &version, self.pre_release) != self.is_inverted {
+            self.has_printed = true;
             print_text(console, text)?;
         }
         Ok(())
@@ -120,7 +121,7 @@ fn all_ranges<O: Write, E: Write>(
     }
 }
 
-/// `ranges filter RANGE [VERSION..]`: the versions that match, in the order given.
+/// `ranges filter RANGE [VERSION..]`: the versions that match, or with `--invert-match` the others, in the order given.
 pub fn filter<R: Input, O: Write, E: Write>(
     rt: &R,
     console: &mut Console<O, E>,
@@ -130,13 +131,14 @@ pub fn filter<R: Input, O: Write, E: Write>(
     let mut filter = Filtering {
         ranges: ranges.as_slice(),
         pre_release: console.options.pre_release,
-        has_match: false,
+        is_inverted: given.has("invert-match"),
+        has_printed: false,
     };
     let status = take_all(rt, console, given.matches.get_strs("VERSION"), &mut filter)?;
     if console.options.json {
         console.end_items()?;
     }
-    Ok(status.worse(Status::of(filter.has_match)))
+    Ok(status.worse(Status::of(filter.has_printed)))
 }
 
 /// `ranges best RANGE [VERSION..]`: the highest version that matches, or `none`.

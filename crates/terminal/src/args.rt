@@ -163,6 +163,12 @@ const SKIP_INVALID: Argument = Argument {
     help: "Pass over what isn't a version",
 };
 
+const INVERT: Argument = Argument {
+    name: "invert-match",
+    form: Form::Flag(Some('v'), &[]),
+    help: "Print the versions that don't match",
+};
+
 const REVERSE: Argument = Argument {
     name: "reverse",
     form: Form::Flag(Some('r'), &[]),
@@ -371,20 +377,6 @@ struct Entry {
     examples: &'static str,
 }
 
-// The arguments of a command that matches versions against ranges.
-const MATCHING: &[Argument] = &[
-    JSON,
-    GRAMMAR,
-    PRE,
-    QUIET,
-    RANGE,
-    NULL,
-    TAGS,
-    SKIP_INVALID,
-    VERSIONS,
-    MORE_RANGES,
-];
-
 // Commands that have another name, and that name.
 const ALIASES: [(&str, &str); 2] = [("filter", "matches"), ("canonical", "normal")];
 
@@ -510,17 +502,41 @@ const ON_VERSIONS: &[Entry] = &[
     Entry {
         name: "filter",
         about: "Print the versions that match, in the order given",
-        arguments: MATCHING,
+        arguments: &[
+            JSON,
+            GRAMMAR,
+            PRE,
+            QUIET,
+            INVERT,
+            RANGE,
+            NULL,
+            TAGS,
+            SKIP_INVALID,
+            VERSIONS,
+            MORE_RANGES,
+        ],
         examples: "\
 Examples:
   ranges filter '^1.2' 1.1.9 1.2.0 1.10.0
+  ranges filter --invert-match '^1.2' 1.1.9 1.2.0 1.10.0
   ranges matches --quiet '^1.2' 1.3.0
   npm view react versions --json | ranges filter '^18'",
     },
     Entry {
         name: "best",
         about: "Print the highest version that matches",
-        arguments: MATCHING,
+        arguments: &[
+            JSON,
+            GRAMMAR,
+            PRE,
+            QUIET,
+            RANGE,
+            NULL,
+            TAGS,
+            SKIP_INVALID,
+            VERSIONS,
+            MORE_RANGES,
+        ],
         examples: "\
 Examples:
   ranges best '^1.2' 1.2.0 1.10.0 1.9.9
