@@ -1,9 +1,11 @@
-//! The commands over lists of versions: `filter`, `best`, `outdated`, `sort` and `key`.
+//! The commands over lists of versions: `filter`, `best`, `outdated`, `simplify`, `sort` and `key`.
 
 use crate::comparing::{print_answer, print_tag, reject};
+use answers::asking::Answer;
 use answers::object::Object;
 use answers::outdated::standing_of;
 use answers::reading::ranges;
+use answers::simplifying::simplified;
 use answers::sorting::{Order, sorted_places};
 use deno_semver::resolve::max_satisfying_with;
 use deno_semver::{PreRelease, Version, VersionReq};
@@ -193,6 +195,31 @@ pub fn outdated<R: Input, O: Write, E: Write>(
         write!(console.out, "{matching} {highest}{end}")?;
     }
     Ok(status.worse(Status::of(!standing.is_outdated())))
+}
+
+/// `ranges simplify RANGE [VERSION..]`: a short range that matches the same of the versions.
+pub fn simplify<R: Input, O: Write, E: Write>(
+    rt: &R,
+    console: &mut Console<O, E>,
+    given: Given<'_, '_>,
+) -> Result<Status, Stop> {
+    // An invalid range is reported before standard input is read.
+    let _ranges = all_ranges(console, given)?;
+    let options = console.options;
+    let mut listed = Listed::new(console.alloc, &[], options.pre_release);
+    let status = take_all(rt, console, given.matches.get_strs("VERSION"), &mut listed)?;
+    let mut versions = Vec::new(console.alloc);
+    for text in listed.texts.iter() {
+        versions.push(text.as_str())?;
+    }
+    let (range, versions) = (given.text("RANGE"), versions.as_slice());
+    let (flavour, pre_release) = (options.flavour, options.pre_release);
+    let answered = match simplified(console.alloc, flavour, pre_release, range, versions) {
+        Ok(Answer::Value(short)) => print_answer(console, "range", Some(short.as_str()))?,
+        Ok(Answer::Tag(tag)) => print_tag(console, tag.as_str())?,
+        Err(problem) => reject(console, &[range], &problem)?,
+    };
+    Ok(status.worse(answered))
 }
 
 /// `ranges sort [VERSION..]`: the versions in the order of precedence; equal ones keep theirs.

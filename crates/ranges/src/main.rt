@@ -58,7 +58,7 @@ fn line_for<R: Input, O: Write, E: Write>(
 ) -> Result<Option<String>, Stop> {
     match name {
         "check" | "asked" | "explain" | "canonical" | "sort" | "key" => Ok(None),
-        "filter" | "best" | "outdated" => {
+        "filter" | "best" | "outdated" | "simplify" => {
             let is_read = reads_versions(matches);
             line_of(rt, console, matches, &["RANGE", "range"], is_read)
         }
@@ -84,6 +84,7 @@ fn perform<R: Runtime + AllocGlobal, O: Write, E: Write>(
         "filter" => listed::filter(rt, console, given),
         "best" => listed::best(rt, console, given),
         "outdated" => listed::outdated(rt, console, given),
+        "simplify" => listed::simplify(rt, console, given),
         "sort" => listed::sort(rt, console, given),
         "key" => listed::key(rt, console, given),
         "explain" => explaining::report(rt, console, given),

@@ -562,6 +562,24 @@ Examples:
   npm view react versions --json | ranges outdated '^17'",
     },
     Entry {
+        name: "simplify",
+        about: "Print a short range that matches the same of the versions",
+        arguments: &[
+            JSON,
+            GRAMMAR,
+            PRE,
+            RANGE,
+            NULL,
+            TAGS,
+            SKIP_INVALID,
+            VERSIONS,
+        ],
+        examples: "\
+Examples:
+  ranges simplify '1.2.0 || 1.3.0 || 1.4.0' 1.1.0 1.2.0 1.3.0 1.4.0 1.5.0
+  npm view react versions --json | ranges simplify '>=16.8 <17 || ^17 || ^18'",
+    },
+    Entry {
         name: "compare",
         about: "Print <, = or > for the order of two versions",
         arguments: &[JSON, ONE, OTHER],
