@@ -97,6 +97,8 @@ impl Options {
 enum Form {
     /// An option without a value, its short name, and the options that it doesn't go with.
     Flag(Option<char>, &'static [&'static str]),
+    /// An option without a value, its short name, and the option that it needs.
+    FlagWith(Option<char>, &'static str),
     /// An option whose value is one of these, the first where it isn't given.
     Choice(&'static str, &'static [&'static str]),
     /// The option that names a grammar, and its short name.
@@ -149,6 +151,12 @@ const NULL: Argument = Argument {
     name: "null",
     form: Form::Flag(Some('0'), &[]),
     help: "End lines of input and output with a NUL byte",
+};
+
+const NULL_PATHS: Argument = Argument {
+    name: "null",
+    form: Form::FlagWith(Some('0'), "files"),
+    help: "With --files, end each path with a NUL byte",
 };
 
 const TAGS: Argument = Argument {
@@ -385,8 +393,8 @@ const ON_FILES: &[Entry] = &[
         name: "check",
         about: "Check the ranges of package.json, deno.json, import maps and pnpm-workspace.yaml",
         arguments: &[
-            JSON, GITHUB, SARIF, CANONICAL, FIX, DRY_RUN, EXCLUDE, LIST, NULL, RULE, STRICT, QUIET,
-            FILES,
+            JSON, GITHUB, SARIF, CANONICAL, FIX, DRY_RUN, EXCLUDE, LIST, NULL_PATHS, RULE, STRICT,
+            QUIET, FILES,
         ],
         examples: "\
 Examples:
@@ -655,6 +663,9 @@ fn command<'a>(
             Form::Flag(short, others) => option(alloc, argument, short)
                 .action(ArgAction::SetTrue)
                 .conflicts_with_all(others)?,
+            Form::FlagWith(short, other) => option(alloc, argument, short)
+                .action(ArgAction::SetTrue)
+                .requires_arg(other)?,
             Form::Choice(value, values) => option(alloc, argument, None)
                 .value_name(value)
                 .value_parser(values)
