@@ -234,19 +234,64 @@ fn ignored_above<R: Runtime + AllocGlobal>(rt: &R, folder: &str) -> io::Result<V
     Ok(ignored)
 }
 
-// Adds the lines of a file of what is ignored in the folder that so many of these names lead to. They count below a folder, to which all lead.
+// The path that one of git's files names, if the file can be read. A relative path begins in a folder.
+fn path_in_file<R: Files + AllocGlobal>(
+    rt: &R,
+    file: &str,
+    front: &str,
+    folder: &str,
+) -> io::Result<Option<String>> {
+    let text = match fs::read_to_string(rt, file) {
+        Ok(text) => text,
+        Err(error) if error.kind() == ErrorKind::OutOfMemory => return Err(error),
+        Err(_) => return Ok(None),
+    };
+    let line = text.as_str().trim_end_matches(['\n', '\r'].as_slice());
+    Ok(match line.strip_prefix(front) {
+        Some(path) if path.starts_with('/') => Some(String::from_str(rt.alloc(), path)?),
+        Some(path) => Some(joined(rt.alloc(), folder, path)?),
+        None => None,
+    })
+}
+
+// The exclude file of the repository at a folder. In a worktree or a submodule `.git` is a file, which names the folder of the repository;
+// and that of a worktree names the one that all worktrees have in common.
+fn exclude_file<R: Files + AllocGlobal>(rt: &R, top: &str) -> io::Result<String> {
+    let alloc = rt.alloc();
+    let git = joined(alloc, top, ".git")?;
+    let git = path_in_file(rt, git.as_str(), "gitdir: ", top)?.unwrap_or(git);
+    let common = joined(alloc, git.as_str(), "commondir")?;
+    let common = path_in_file(rt, common.as_str(), "", git.as_str())?.unwrap_or(git);
+    Ok(joined(alloc, common.as_str(), "info/exclude")?)
+}
+
+// Adds what git ignores in all of the repository at a folder: the user's own, and its exclude file. The lines count below a folder, to
+// which the names of `lead` lead.
+fn read_shared<R: Runtime + AllocGlobal>(
+    rt: &R,
+    top: &str,
+    folder: &str,
+    lead: &str,
+    ignored: &mut Vec<Ignored>,
+) -> io::Result<()> {
+    let own = excludes_file(rt)?;
+    read_ignored(rt, own.as_str(), folder, lead, ignored)?;
+    let shared = exclude_file(rt, top)?;
+    read_ignored(rt, shared.as_str(), folder, lead, ignored)
+}
+
+// Adds the lines of the .gitignore in the folder that so many of these names lead to. They count below a folder, to which all lead.
 fn read_at<R: Runtime + AllocGlobal>(
     rt: &R,
     folder: &str,
     names: &[&str],
     count: usize,
-    file: &str,
     ignored: &mut Vec<Ignored>,
 ) -> io::Result<()> {
     let (front, behind) = names.split_at_checked(count).unwrap_or((names, &[]));
     let above = path_of(rt.alloc(), front)?;
     let lead = path_of(rt.alloc(), behind)?;
-    let file = format!(in rt.alloc(); "{above}/{file}")?;
+    let file = format!(in rt.alloc(); "{above}/.gitignore")?;
     read_ignored(rt, file.as_str(), folder, lead.as_str(), ignored)
 }
 
@@ -258,12 +303,12 @@ fn read_above<R: Runtime + AllocGlobal>(
     top: usize,
     ignored: &mut Vec<Ignored>,
 ) -> io::Result<()> {
-    let own = excludes_file(rt)?;
-    let lead = path_of(rt.alloc(), names.get(top..).unwrap_or(&[]))?;
-    read_ignored(rt, own.as_str(), folder, lead.as_str(), ignored)?;
-    read_at(rt, folder, names, top, ".git/info/exclude", ignored)?;
+    let (front, behind) = names.split_at_checked(top).unwrap_or((names, &[]));
+    let (above, lead) = (path_of(rt.alloc(), front)?, path_of(rt.alloc(), behind)?);
+    let above = format!(in rt.alloc(); "{above}/")?;
+    read_shared(rt, above.as_str(), folder, lead.as_str(), ignored)?;
     for count in top..names.len() {
-        read_at(rt, folder, names, count, ".gitignore", ignored)?;
+        read_at(rt, folder, names, count, ignored)?;
     }
     Ok(())
 }
@@ -274,15 +319,42 @@ fn read_above<R: Runtime + AllocGlobal>(
 #[derive(Drop)]
 struct Left {
     ignored: Vec<Ignored>,
+    /// How many lines, the first, are of outer repositories, and don't count.
+    outer: usize,
     excluded: Vec<Ignored>,
 }
 
 impl Left {
+    fn new(ignored: Vec<Ignored>, excluded: Vec<Ignored>) -> Left {
+        Left {
+            ignored,
+            outer: 0,
+            excluded,
+        }
+    }
+
     fn has(&self, alloc: Global, path: &str, is_folder: bool) -> Result<bool, AllocError> {
+        let ignored = self.ignored.get(self.outer..).unwrap_or(&[]);
         Ok(
             is_ignored(alloc, self.excluded.as_slice(), path, is_folder)?
-                || is_ignored(alloc, self.ignored.as_slice(), path, is_folder)?,
+                || is_ignored(alloc, ignored, path, is_folder)?,
         )
+    }
+
+    // Goes on with so many lines, of which the first, of outer repositories, don't count.
+    fn go_back(&mut self, ignored: usize, outer: usize) {
+        self.ignored.truncate(ignored);
+        self.outer = outer;
+    }
+
+    // Goes into a folder below another. If it has a repository of its own, git ignores nothing in it by files of the outer one.
+    fn enter<R: Runtime + AllocGlobal>(&mut self, rt: &R, folder: &str) -> io::Result<()> {
+        let git = joined(rt.alloc(), folder, ".git")?;
+        if !fs::exists(rt, git.as_str()).unwrap_or(false) {
+            return Ok(());
+        }
+        self.outer = self.ignored.len();
+        read_shared(rt, folder, folder, "", &mut self.ignored)
     }
 }
 
@@ -357,11 +429,12 @@ fn shown_folder(folder: &str) -> &str {
     if folder.is_empty() { "." } else { folder }
 }
 
-// A folder that isn't listed yet, and how many lines of what is ignored count there, without its own.
+// A folder that isn't listed yet, how many lines say what is ignored there, without its own, and how many are of outer repositories.
 #[derive(Drop)]
 struct Waiting {
     folder: String,
     ignored: usize,
+    outer: usize,
 }
 
 // Lists a folder, or reports that it can't be read, or that a name in it can't.
@@ -406,20 +479,25 @@ fn manifests_in<R: Runtime + AllocGlobal, O: Write, E: Write>(
     let first = Waiting {
         folder: String::from_str(alloc, folder)?,
         ignored: ignored.len(),
+        outer: 0,
     };
-    let mut left = Left { ignored, excluded };
+    let mut left = Left::new(ignored, excluded);
     let mut waiting = vec![in alloc; first]?;
     for turn in 0..u64::MAX {
         let Some(
             Waiting {
                 folder,
-                ignored: above,
+                ignored,
+                outer,
             },
         ) = waiting.pop()
         else {
             break;
         };
-        left.ignored.truncate(above);
+        left.go_back(ignored, outer);
+        if turn > 0 && left.enter(rt, folder.as_str()).is_err() {
+            return Err(Stop::OutOfMemory);
+        }
         let Some(
             Folder {
                 manifests,
@@ -438,8 +516,12 @@ fn manifests_in<R: Runtime + AllocGlobal, O: Write, E: Write>(
         }
         for _ in 0..folders.len() {
             if let Some(folder) = folders.pop() {
-                let ignored = left.ignored.len();
-                waiting.push(Waiting { folder, ignored })?;
+                let (ignored, outer) = (left.ignored.len(), left.outer);
+                waiting.push(Waiting {
+                    folder,
+                    ignored,
+                    outer,
+                })?;
             }
         }
     }
@@ -700,10 +782,7 @@ fn manifests_here<R: Runtime + AllocGlobal, O: Write, E: Write>(
 ) -> Result<Group, Stop> {
     let alloc = console.alloc;
     let mut found = Group::new(alloc);
-    let mut left = Left {
-        ignored: Vec::new(alloc),
-        excluded: excluded(alloc, excludes)?,
-    };
+    let mut left = Left::new(Vec::new(alloc), excluded(alloc, excludes)?);
     match list(rt, "", &mut left) {
         Ok(Folder { manifests, .. }) => found.paths = manifests,
         Err(error) => {
