@@ -2,7 +2,16 @@
 
 use std::alloc::{AllocError, Global};
 use std::io::Write;
-use terminal::console::{Console, Stop};
+use terminal::console::{Console, END, Stop, Style};
+
+// What begins a header, the numbers of lines, a line that goes, and one that comes: the colours of `git diff`.
+const HEADER: &str = "\x1b[1m";
+
+const NUMBERS: &str = "\x1b[36m";
+
+const REMOVED: &str = "\x1b[31m";
+
+const ADDED: &str = "\x1b[32m";
 
 // So many lines are shown before and behind one that differs.
 const CONTEXT: usize = 3;
@@ -52,29 +61,35 @@ fn shown_from(lines: &[Line<'_>], place: usize) -> usize {
 }
 
 // Prints a line behind a sign.
-fn print_line<O: Write>(out: &mut O, sign: &str, line: &str) -> Result<(), Stop> {
-    write!(out, "{sign}{line}")?;
-    if !line.ends_with('\n') {
-        out.write_all(b"\n\\ No newline at end of file\n")?;
+fn print_line<O: Write>(out: &mut O, style: Style, sign: char, line: &str) -> Result<(), Stop> {
+    let text = line.strip_suffix('\n').unwrap_or(line);
+    let (start, end) = match sign {
+        '-' => (style.code(REMOVED), style.code(END)),
+        '+' => (style.code(ADDED), style.code(END)),
+        _ => ("", ""),
+    };
+    writeln!(out, "{start}{sign}{text}{end}")?;
+    if text.len() == line.len() {
+        out.write_all(b"\\ No newline at end of file\n")?;
     }
     Ok(())
 }
 
 // Prints lines that are shown, of which each run that differs as it was, and then as it is.
-fn print_hunk<O: Write>(out: &mut O, hunk: &[Line<'_>]) -> Result<(), Stop> {
+fn print_hunk<O: Write>(out: &mut O, style: Style, hunk: &[Line<'_>]) -> Result<(), Stop> {
     let mut added = 0usize;
     for (place, line) in hunk.iter().enumerate() {
         if line.differs() {
-            print_line(out, "-", line.old)?;
+            print_line(out, style, '-', line.old)?;
         } else {
-            print_line(out, " ", line.old)?;
+            print_line(out, style, ' ', line.old)?;
         }
         let next = place.saturating_add(1);
         let ends = !hunk.get(next).is_some_and(|next| next.differs());
         if ends {
             for line in hunk.get(added..next).unwrap_or(&[]) {
                 if line.differs() {
-                    print_line(out, "+", line.new)?;
+                    print_line(out, style, '+', line.new)?;
                 }
             }
             added = next;
@@ -92,14 +107,16 @@ pub fn print_diff<'t, O: Write, E: Write>(
 ) -> Result<(), Stop> {
     let lines = lines(console.alloc, old, new)?;
     let lines = lines.as_slice();
-    let out = &mut console.out;
+    let (out, style) = (&mut console.out, console.terminal.out);
+    let (header, numbers, end) = (style.code(HEADER), style.code(NUMBERS), style.code(END));
     // git takes the first name off a path.
-    let path = path.strip_prefix("./").unwrap_or(path);
-    if path == "-" || path.starts_with('/') {
-        write!(out, "--- {path}\n+++ {path}\n")?;
+    let (before, behind) = if path == "-" || path.starts_with('/') {
+        ("", "")
     } else {
-        write!(out, "--- a/{path}\n+++ b/{path}\n")?;
-    }
+        ("a/", "b/")
+    };
+    writeln!(out, "{header}--- {before}{path}{end}")?;
+    writeln!(out, "{header}+++ {behind}{path}{end}")?;
     let mut done = 0usize;
     for place in 0..lines.len() {
         if place < done || !is_shown(lines, place) {
@@ -108,11 +125,11 @@ pub fn print_diff<'t, O: Write, E: Write>(
         let count = shown_from(lines, place);
         let first = place.saturating_add(1);
         match count {
-            1 => write!(out, "@@ -{first} +{first} @@\n")?,
-            _ => write!(out, "@@ -{first},{count} +{first},{count} @@\n")?,
+            1 => writeln!(out, "{numbers}@@ -{first} +{first} @@{end}")?,
+            _ => writeln!(out, "{numbers}@@ -{first},{count} +{first},{count} @@{end}")?,
         }
         done = place.saturating_add(count);
-        print_hunk(out, lines.get(place..done).unwrap_or(&[]))?;
+        print_hunk(out, style, lines.get(place..done).unwrap_or(&[]))?;
     }
     Ok(())
 }
