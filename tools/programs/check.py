@@ -461,6 +461,36 @@ def diffs():
             yield None if found == wanted and new != old else f"the diff of {old!r}: wanted {wanted!r}, found {found!r}"
 
 
+def applied():
+    """git takes what `--dry-run` prints, in the folder where it ran, or at the top of the repository if a file lies outside that folder."""
+    at_top = "ranges: a file lies outside this folder: run git apply at the top of the repository\n"
+    outside = "ranges: {}: outside this folder: git apply refuses its diff\n"
+    with tempfile.TemporaryDirectory() as name:
+        room = pathlib.Path(name).resolve()
+        top, here = room / "top", room / "top/here"
+        subprocess.run(["git", "init", "-q", top], check=True)
+        for folder in (here, top / "beside", room / "far"):
+            folder.mkdir()
+        (here / "link").symlink_to("list")
+        for files, folder, told, status in (
+            (["list"], here, "", 0),
+            ([f"{here}/list"], here, "", 0),
+            (["../here/./list"], here, "", 0),
+            (["link"], here, "", 0),
+            (["../beside/list"], top, at_top, 0),
+            (["list", f"{top}/beside/list"], top, at_top, 0),
+            (["../../far/list"], here, outside.format("../../far/list"), 1),
+        ):
+            paths = [here / file for file in files]
+            for path in paths:
+                path.write_text("1.x\n")
+            ran = subprocess.run([RANGES, "check", "--dry-run", *files], cwd=here, capture_output=True, text=True, timeout=60)
+            git = subprocess.run(["git", "apply"], cwd=folder, input=ran.stdout, stderr=subprocess.DEVNULL, text=True, timeout=60)
+            found = ran.stderr, git.returncode, {path.read_text() for path in paths}
+            wanted = told, status, {"1.x\n" if status else "1\n"}
+            yield None if found == wanted else f"git apply of the diff of {files}: wanted {wanted}, found {found}"
+
+
 def pages():
     path = ":".join([*(str(PROGRAMS[name].parent) for name in ("ranges", "npmver")), os.environ["PATH"]])
     for name in PAGES:
@@ -514,7 +544,7 @@ def main():
     for program in PROGRAMS.values():
         if not program.is_file():
             sys.exit(f"{program} isn't built: run rt ci first")
-    checks = (rows, unwritable, unreadable, long_texts, many_ranges, deep, named, plenty, questions, sarif, diffs, live, changed, pages, memory, scarce, closed)
+    checks = (rows, unwritable, unreadable, long_texts, many_ranges, deep, named, plenty, questions, sarif, diffs, applied, live, changed, pages, memory, scarce, closed)
     if FOLDER:
         checks = (rows,)
     outcomes = [outcome for check in checks for outcome in check()]

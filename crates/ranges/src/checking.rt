@@ -1135,14 +1135,11 @@ fn check_dry<R: Input + Files + AllocGlobal, O: Write, E: Write>(
         Format::Lines
     };
     let report = Report { format, ..*report };
-    let mut status = Status::Answered;
     let mut all = Vec::new(console.alloc);
     for group in groups {
         all.push(rewrite(rt, console, group, settings)?)?;
     }
-    for files in all.iter() {
-        status = status.worse(print_diffs(console, files.as_slice())?);
-    }
+    let mut status = print_diffs(rt, console, all.as_slice())?;
     console.out.flush()?;
     let mut left = console.on_error();
     let silent = Report {

@@ -3,6 +3,7 @@
 use crate::advice::contained;
 use crate::diff::print_diff;
 use crate::known::entries_of;
+use crate::relative::paths_in_diff;
 use crate::rules::{Level, Levels, Rule};
 use crate::walking::{Group, read_file};
 use answers::asking::Problem;
@@ -801,16 +802,27 @@ pub fn rewrite<R: Input + Files + AllocGlobal, O: Write, E: Write>(
     Ok(all)
 }
 
-/// Prints what changes in files. The status says whether something does.
-pub fn print_diffs<O: Write, E: Write>(
+/// Prints what changes in the files of groups. The status says whether something does.
+pub fn print_diffs<R: Files + AllocGlobal, O: Write, E: Write>(
+    rt: &R,
     console: &mut Console<O, E>,
-    files: &[Rewritten],
+    groups: &[Vec<Rewritten>],
 ) -> Result<Status, Stop> {
-    let mut status = Status::Answered;
-    for file in files.iter().filter(|file| file.count > 0) {
-        let (path, old, new) = (file.path.as_str(), file.old.as_str(), file.new.as_str());
-        print_diff(console, path, old, new)?;
-        status = Status::Found;
+    let mut changed = Vec::new(console.alloc);
+    let mut files = Vec::new(console.alloc);
+    for file in groups.iter().flat_map(|group| group.iter()) {
+        if file.count > 0 {
+            changed.push(file)?;
+            files.push(file.path.as_str())?;
+        }
     }
-    Ok(status)
+    let paths = paths_in_diff(rt, console, files.as_slice())?;
+    for (file, path) in changed.iter().zip(paths.iter()) {
+        print_diff(console, path.as_str(), file.old.as_str(), file.new.as_str())?;
+    }
+    Ok(if changed.is_empty() {
+        Status::Answered
+    } else {
+        Status::Found
+    })
 }

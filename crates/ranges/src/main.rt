@@ -23,6 +23,7 @@ mod known;
 mod listed;
 mod overriding;
 mod packaged;
+mod relative;
 mod rules;
 mod scanned;
 mod stepping;

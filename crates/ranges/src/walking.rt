@@ -125,8 +125,8 @@ fn read_ignored<R: Runtime + AllocGlobal>(
     Ok(())
 }
 
-// How many of these names lead to the nearest folder that has a `.git`, if one has.
-fn repository<R: Files + AllocGlobal>(rt: &R, names: &[&str]) -> io::Result<Option<usize>> {
+/// How many of these names lead to the nearest folder that has a `.git`, if one has.
+pub fn repository<R: Files + AllocGlobal>(rt: &R, names: &[&str]) -> io::Result<Option<usize>> {
     for count in (0..=names.len()).rev() {
         let folder = path_of(rt.alloc(), names.get(..count).unwrap_or(&[]))?;
         let git = format!(in rt.alloc(); "{folder}/.git")?;
@@ -137,8 +137,8 @@ fn repository<R: Files + AllocGlobal>(rt: &R, names: &[&str]) -> io::Result<Opti
     Ok(None)
 }
 
-// The path that begins at the top of the system, and has these names; an empty one is that top.
-fn path_of(alloc: Global, names: &[&str]) -> Result<String, AllocError> {
+/// The path that begins at the top of the system, and has these names; an empty one is that top.
+pub fn path_of(alloc: Global, names: &[&str]) -> Result<String, AllocError> {
     let mut path = String::new(alloc);
     for name in names {
         path.push('/')?;
