@@ -822,6 +822,20 @@ fn check_relations<'e, O: Write, E: Write>(
     Ok(())
 }
 
+// Checks what a workspace has in place of its name, and isn't a string.
+fn check_odd_name<O: Write, E: Write>(
+    console: &mut Console<O, E>,
+    report: &mut Report<'_>,
+    entry: &Entry,
+    known: &Known,
+) -> Result<(), Stop> {
+    let value = report.text.get(entry.start..).unwrap_or("");
+    match known.refusal_of_odd_name(value) {
+        Some(message) => report.add(console, entry, Finding::new(Cause::Refused, message)),
+        None => Ok(()),
+    }
+}
+
 // Checks an entry.
 fn check_entry<'e, O: Write, E: Write>(
     console: &mut Console<O, E>,
@@ -893,13 +907,7 @@ fn check_entry<'e, O: Write, E: Write>(
             Some(message) => report.add(console, entry, Finding::new(Cause::Refused, message)),
             None => Ok(()),
         },
-        Kind::OddName if !file.is_own => {
-            let value = report.text.get(entry.start..).unwrap_or("");
-            match file.known.refusal_of_odd_name(value) {
-                Some(message) => report.add(console, entry, Finding::new(Cause::Refused, message)),
-                None => Ok(()),
-            }
-        }
+        Kind::OddName if !file.is_own => check_odd_name(console, report, entry, file.known),
         Kind::Workspace
         | Kind::Workspaces
         | Kind::Packages
