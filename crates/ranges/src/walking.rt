@@ -1,8 +1,11 @@
 //! The manifests of folders and of workspaces, and the files of arguments.
 
+use answers::asking::Problem;
+use answers::reading;
 use patterns::ignored::{Ignored, is_ignored};
 use patterns::paths::names_of;
 use patterns::workspaces::{Workspace, is_workspace, undo};
+use semver_req::common::values::Flavour;
 use std::alloc::{AllocError, Global};
 use std::collections::{BTreeMap, HashMap, HashSet};
 use std::env::VarError;
@@ -910,6 +913,27 @@ fn add_import_maps<R: Runtime + AllocGlobal>(rt: &R, groups: &mut [Group]) -> Re
 
 // ---- arguments
 
+// Whether a text is a range of npm's grammar.
+fn is_range(alloc: Global, text: &str) -> Result<bool, Stop> {
+    match reading::range(alloc, Flavour::Npm, 0, text) {
+        Ok(range) => Ok(range.tag().is_none()),
+        Err(Problem::Invalid(_)) => Ok(false),
+        Err(Problem::OutOfMemory) => Err(Stop::OutOfMemory),
+    }
+}
+
+// Says what to run if the name of a file that isn't there is a range.
+fn hint_at_range<O: Write, E: Write>(console: &mut Console<O, E>, file: &str) -> Result<(), Stop> {
+    if !file.contains('\'') && is_range(console.alloc, file)? {
+        let _ = writeln!(
+            console.err,
+            "  = to check a range, run: ranges explain '{}'",
+            Shown(file)
+        );
+    }
+    Ok(())
+}
+
 /// Reads a file, or standard input for `-`; what is wrong with the file itself is reported on standard error.
 pub fn read_file<R: Input + Files + AllocGlobal, O: Write, E: Write>(
     rt: &R,
@@ -923,6 +947,7 @@ pub fn read_file<R: Input + Files + AllocGlobal, O: Write, E: Write>(
     } else {
         fs::read_to_string(rt, file)
     };
+    let mut is_missing = false;
     let reason = match read {
         Ok(text) if text.is_empty() && file == "-" => "standard input is empty",
         Ok(text) => return Ok(text),
@@ -931,14 +956,21 @@ pub fn read_file<R: Input + Files + AllocGlobal, O: Write, E: Write>(
             ErrorKind::NotFound if file.contains(char::REPLACEMENT_CHARACTER) => {
                 "no such file, or its name isn't valid UTF-8"
             }
-            ErrorKind::NotFound => "no such file",
+            ErrorKind::NotFound => {
+                is_missing = true;
+                "no such file"
+            }
             ErrorKind::PermissionDenied => "permission denied",
             ErrorKind::IsADirectory => "is a directory",
             ErrorKind::InvalidData => "not valid UTF-8",
             _ => "can't be read",
         },
     };
-    Err(Stop::Ended(console.complain(Shown(file), reason)))
+    let status = console.complain(Shown(file), reason);
+    if is_missing {
+        hint_at_range(console, file)?;
+    }
+    Err(Stop::Ended(status))
 }
 
 /// The manifests to check: the files, and those in folders, but for what is excluded; without any, those of this folder and its workspaces.
