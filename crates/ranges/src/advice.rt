@@ -1,4 +1,4 @@
-//! What is legal in a range, and surely not meant.
+//! What is legal in a range, and surely not meant, and what npm reads differently.
 
 use crate::rules::Rule;
 use answers::asking::{Answer, Problem};
@@ -7,9 +7,29 @@ use answers::questions::version_outside;
 use deno_semver::{PreRelease, RangeBound, Version, VersionBound, VersionBoundKind, VersionRange};
 use semver_req::common::values::Flavour;
 use std::alloc::{AllocError, Global};
+use terminal::npm::{number_behind_wildcard, number_behind_zero};
 
 /// More alternatives than these aren't compared with one another.
 const MANY: usize = 32;
+
+/// What an alternative without comparators at the end of a range is.
+pub const EMPTY_AT_END: &str =
+    "node-semver reads the empty part behind the last `||` as every version";
+
+/// How node-semver, and so npm, reads parts of a range that it reads differently.
+pub fn differences(alloc: Global, range: &str) -> Result<Vec<String>, AllocError> {
+    let mut all = Vec::new(alloc);
+    if range.trim_end().ends_with("||") {
+        all.push(String::from_str(alloc, EMPTY_AT_END)?)?;
+    }
+    if let Some((word, read)) = number_behind_wildcard(range) {
+        all.push(format!(in alloc; "npm reads `{word}` as `{read}`")?)?;
+    }
+    if let Some(number) = number_behind_zero(range) {
+        all.push(format!(in alloc; "node-semver refuses the zero of `{number}`, or drops it")?)?;
+    }
+    Ok(all)
+}
 
 /// The warnings about a range, and the rules that they come by.
 pub type Warnings = Vec<(Rule, String)>;

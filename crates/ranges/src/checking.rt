@@ -1,6 +1,6 @@
 //! `ranges check`: the ranges of package.json, deno.json, import maps and lists of ranges.
 
-use crate::advice::{bound_of_pre_releases, has_match, warnings};
+use crate::advice::{EMPTY_AT_END, bound_of_pre_releases, differences, has_match, warnings};
 use crate::errors::{errors_at_end, errors_of};
 use crate::explaining::has_left_out;
 use crate::findings::{Cause, Finding, Format, Position, Report};
@@ -28,8 +28,8 @@ use terminal::entry::Entry;
 use terminal::hints::{question, url_behind};
 use terminal::manifest::entries;
 use terminal::npm::{
-    self, Reading, Source, ends_in_key, is_package_name, name_and_range, number_behind_wildcard,
-    number_behind_zero, source_of,
+    self, Reading, Source, ends_in_key, is_package_name, name_and_range, number_behind_zero,
+    source_of,
 };
 use terminal::pointing::version_errors;
 use terminal::sections::Kind;
@@ -77,9 +77,6 @@ fn refuse<O: Write, E: Write>(
     };
     report.add(console, entry, Finding::new(Cause::Refused, message))
 }
-
-// What an alternative without comparators at the end of a range is.
-const EMPTY_AT_END: &str = "node-semver reads the empty part behind the last `||` as every version";
 
 // Reports what npm makes of a dependency in another way than this grammar.
 fn compare_with_npm<O: Write, E: Write>(
@@ -203,9 +200,11 @@ fn warn<O: Write, E: Write>(
     } else if has_left_out(pieces) {
         report_left_out(console, report, entry, range, true)?;
     }
-    // node-semver, and so npm, reads these in another way.
-    if range.trim_end().ends_with("||") {
-        report.add(console, entry, Finding::by(Rule::NpmDiffers, EMPTY_AT_END))?;
+    if entry.kind != Kind::Specifier {
+        for difference in differences(alloc, range)?.iter() {
+            let finding = Finding::by(Rule::NpmDiffers, difference.as_str());
+            report.add(console, entry, finding)?;
+        }
     }
     if entry.kind != Kind::Dependency && (range.contains(',') || range.contains("&&")) {
         let message = "node-semver refuses `,` and `&&`: write a space";
@@ -214,18 +213,6 @@ fn warn<O: Write, E: Write>(
             entry,
             Finding::by(Rule::IgnoredComparator, message),
         )?;
-    }
-    if let Some((word, read)) = number_behind_wildcard(range)
-        && entry.kind != Kind::Specifier
-    {
-        let message = format!(in alloc; "npm reads `{word}` as `{read}`");
-        report.tell(console, entry, Rule::NpmDiffers, message)?;
-    }
-    if let Some(number) = number_behind_zero(range)
-        && entry.kind != Kind::Specifier
-    {
-        let message = format!(in alloc; "node-semver refuses the zero of `{number}`, or drops it");
-        report.tell(console, entry, Rule::NpmDiffers, message)?;
     }
     if entry.kind != Kind::Specifier {
         warn_of_hyphen(console, report, entry, range)?;

@@ -1,9 +1,11 @@
 //! `ranges explain`: what a range means.
 
+use crate::advice::differences;
 use crate::comparing::{Line, print_json, print_tag, reject_line};
 use answers::explained::{Explanation, Matches, Meaning, Piece, explain};
 use answers::explained_json::ranges_explained;
 use deno_semver::{PreRelease, RangeBound, Version, VersionBound, VersionBoundKind, VersionRange};
+use semver_req::common::values::Flavour;
 use std::fmt;
 use std::io::Write;
 use terminal::console::{BOUNDS, Console, END, ERROR, Status, Stop, Style, print_line};
@@ -134,7 +136,8 @@ pub fn has_left_out(pieces: &[Piece]) -> bool {
         .any(|piece| matches!(piece.meaning, Meaning::LeftOut(_)))
 }
 
-// Prints each alternative on a line, an invalid one with its error, and the canonical form; or all as JSON.
+// Prints each alternative on a line, an invalid one with its error, the canonical form, and what npm reads differently; or, without the
+// last, JSON.
 fn report_pieces<O: Write, E: Write>(
     console: &mut Console<O, E>,
     line: Line,
@@ -169,6 +172,14 @@ fn report_pieces<O: Write, E: Write>(
             }
         }
         print_line(&mut console.out, format_args!("canonical form: {normal}"))?;
+        if options.flavour == Flavour::Npm {
+            for difference in differences(alloc, text)?.iter() {
+                print_line(
+                    &mut console.out,
+                    format_args!("note: {}", Shown(difference.as_str())),
+                )?;
+            }
+        }
     }
     Ok(status)
 }
