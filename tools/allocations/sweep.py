@@ -163,7 +163,7 @@ VERSIONS = b"1.2.3-rc\n2.1.0\n1.x\n\"2.\\u0030.0\"\n"
 def folder_of_manifests(room):
     """A folder with manifests in it and below it."""
     folder = pathlib.Path(room, "manifests")
-    for name, held in {"package.json": MANIFEST, "pnpm-workspace.yaml": WORKSPACE, "p/a/package.json": ODD, "p/b/c/deno.jsonc": b'{"imports": {"a": "npm:e@1", "f": "npm:https://g"}}', ".gitignore": b"!x?[a-c]\n/p/**/q\n"}.items():
+    for name, held in {"package.json": MANIFEST, "pnpm-workspace.yaml": WORKSPACE, "p/a/package.json": ODD, "p/b/c/deno.jsonc": b'{"imports": {"a": "npm:e@1", "f": "npm:https://g"}}', ".gitignore": b"!x?[a-c]\n/p/**/q\n", "p/a/.git": b"gitdir: ../g\n"}.items():
         (folder / name).parent.mkdir(parents=True, exist_ok=True)
         (folder / name).write_bytes(held)
     return str(folder)
@@ -174,7 +174,7 @@ def ranges_commands(folder):
     loose, tag = TEXTS[0], "latest"
     for json_form in ([], ["--json"]):
         yield from (([name, *json_form, loose, tag], b"") for name in ("explain", "canonical"))
-        yield from (([name, *json_form, loose], VERSIONS) for name in ("filter", "best", "outdated"))
+        yield from (([name, *json_form, loose], VERSIONS) for name in ("filter", "best", "outdated", "simplify"))
         yield from (([name, *json_form, loose, "^1 || foo"], b"") for name in ("common", "within", "overlap"))
         yield from ((["compare", *json_form, "1.2.3-rc", "1.2.3"], b""), (["overlap", *json_form, "*", ">=1.0.0-a <1.0.0", "1"], b""))
         yield from ((["sort", *json_form, "--reverse", "--skip-invalid"], VERSIONS), (["min", *json_form, loose], b""))
@@ -190,7 +190,7 @@ def ranges_commands(folder):
     yield from ((["filter", "-q", "*"], b'["1.0.0", "2.0.0-a"]'), (["best", "--tags", "*", "--range", "1"], b"refs/tags/v1.0.0\n"))
     yield from ((["min", "-"], b'"^1.2"'), (["overlap", "-", "^1"], b">=1.2\n"), (["filter", "-", "1.0.0"], b"^1"))
     yield from ((["check", "--github", f"{folder}/p/a/package.json"], b""), (["canonical", "-"], b"1\n1 2 <\n"))
-    yield from ((["check", "--github", "-"], MANIFEST), (["--help"], b""), (["frobnicate"], b""), (["check", "none.json"], b""))
+    yield from ((["check", "--github", "-"], MANIFEST), (["--help"], b""), (["frobnicate"], b""), (["check", "1.x"], b""))
     yield from ((["check", "-"], b"{"), (["check", "-"], b"[]"), (["filter", "*"], b"{}"), (["check", "--rule", "none=off"], b""))
 
 
