@@ -330,7 +330,7 @@ def plenty():
     yield ask("ranges", ["check", "-"], "^1..2\n" * PLENTY, ("".join(ONE_CHECKED.format(line) for line in range(1, PLENTY + 1)), "", 1))
     nested = '{"x":' + "[" * PLENTY + "]" * PLENTY + ',"dependencies":{"a":"1..2"}}'
     yield ask("ranges", ["check", "-"], nested, (f'-:1:{nested.index("1..2") + 1}: warning: a: "1..2": is a version meant? [odd-tag]\n', "", 0))
-    for command, answer in (("filter", lines), ("best", "1.0.0\n"), ("outdated", "1.0.0 1.0.0\n"), ("sort", lines)):
+    for command, answer in (("filter", lines), ("best", "1.0.0\n"), ("outdated", "1.0.0 1.0.0\n"), ("simplify", "1\n"), ("sort", lines)):
         range_there = [] if command == "sort" else ["1"]
         yield ask("ranges", [command, *range_there, *versions], "", (answer, "", 0))
         yield ask("ranges", [command, *range_there], lines, (answer, "", 0))
