@@ -111,7 +111,7 @@ int32_t semver_best(uint32_t grammar, const char *range, size_t range_len,
 int32_t semver_lowest(uint32_t grammar, const char *range, size_t range_len,
                       const char *versions, size_t versions_len, uint32_t pre_releases, size_t *place);
 
-/* A short range that matches the same of several versions, one per line: YES, with its text, or TAG. It is the range as you wrote it, or, if
+/* A short range that matches the same versions of a list, one per line: YES, with its text, or TAG. It is the range as you wrote it, or, if
  * that is shorter, the ranges in which the versions match, in canonical form. With INVALID_VERSION `*place` is that version's line, and with
  * INVALID_RANGE it is 0. */
 int32_t semver_simplify(uint32_t grammar, const char *range, size_t range_len,

@@ -224,8 +224,8 @@ export function best<T extends string | Version>(range: string | Range, versions
 export function lowest<T extends string | Version>(range: string | Range, versions: readonly T[], options?: Options & ListOptions): T | undefined;
 
 /**
- * A short range that matches the same of the versions: the range as you wrote it or, if that is shorter, the ranges in which they match, in
- * canonical form.
+ * A short range that matches the same versions of the list: the range as you wrote it or, if that is shorter, the ranges in which they match,
+ * in canonical form.
  * @example simplify('1.2.0 || 1.3.0', ['1.1.0', '1.2.0', '1.3.0']) // '>=1.2.0'
  */
 export function simplify(range: string | Range, versions: readonly (string | Version)[], options?: Options): string;

@@ -41,7 +41,7 @@ export function findInList(call, grammar, range, versions, pre) {
   throw errorOf(code, grammar, [range], texts, invalidPlace(code), 'versions');
 }
 
-/** A short range that matches the same of the versions. */
+/** A short range that matches the same versions of the list. */
 export function simplifyForList(grammar, range, versions, pre) {
   const texts = textsOf(versions);
   const code = ask2(wasm.simplify, grammar, range, linesOf(texts), pre);

@@ -175,7 +175,7 @@ def lowest(
 
 
 def simplify(range: AnyRange, versions: Iterable[V], *, grammar: Optional[Grammar] = None, pre_releases: bool = False) -> str:
-    """A short range that matches the same of the versions: the range as you wrote it or, if that is shorter, the ranges in which they
+    """A short range that matches the same versions of the list: the range as you wrote it or, if that is shorter, the ranges in which they
     match, in canonical form.
 
     >>> simplify("1.2.0 || 1.3.0", ["1.1.0", "1.2.0", "1.3.0"])

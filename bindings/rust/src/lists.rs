@@ -43,7 +43,7 @@ pub enum Best {
     Invalid(usize),
 }
 
-/// A short range that matches the same of a list.
+/// A short range that matches the same versions of a list.
 #[derive(Clone, Debug, PartialEq, Eq)]
 pub enum Simplified {
     /// The range.
@@ -125,8 +125,8 @@ pub fn lowest(
     chosen(call).ok_or_else(|| invalid(grammar, range))
 }
 
-/// A short range that matches the same of the versions: the range as you wrote it or, if that is shorter, the ranges in which they match,
-/// in canonical form.
+/// A short range that matches the same versions of the list: the range as you wrote it or, if that is shorter, the ranges in which they
+/// match, in canonical form.
 ///
 /// ```
 /// # use deno_semver_proved::{lists::{simplify, Simplified}, Grammar, PreRelease};

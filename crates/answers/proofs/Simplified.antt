@@ -1,4 +1,4 @@
--- The shortest range that matches the same of several versions: there is one.
+-- A short range that matches the same versions of a list: there is one.
 use Rattle.std.proofs.Common.{◌≡◌, ◌∙◌, ◌⊎◌, ℕ, Bool, false, List, [], ◌∷◌, None, Ok, Err, Result, Equal, IsPermutation, refl, sym, ap, subst, inl, inr}
 use Rattle.std.proofs.lemmas.Cmp.{tied_itself}
 use Rattle.std.proofs.lemmas.List.Sorted.{IsPermutation-sym, IsPermutation-trans}

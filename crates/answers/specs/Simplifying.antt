@@ -1,5 +1,5 @@
--- A short range that matches the same of several versions. Source: node-semver's documentation of `simplifyRange`. What is ours: the
--- range that is made matches the same of the versions, which is checked; and a list without versions changes nothing.
+-- A short range that matches the same versions of a list. Source: node-semver's documentation of `simplifyRange`. What is ours: the
+-- range that is made matches the same versions of the list, which is checked; and a list without versions changes nothing.
 use Rattle.std.specs.Prelude.{◌≡◌, ◌==◌, ◌&&◌, ℕ, Bool, false, List, None, Result, Ok, IsPermutation, IsSorted, if◌then◌else◌, is_none, length, nat_lt, not}
 use Rattle.std.specs.List.{list_all}
 use Rattle.semver_base.specs.NormalText.{set_text}
@@ -20,7 +20,7 @@ use Rattle.answers.specs.declared.asking.Answer.TheVariants.{Value}
 abbrev pub match_alike : PreRelease → RangeSetOrTag → RangeSetOrTag → Version → Bool
 match_alike flag one other v = if inner_means_with flag one v then inner_means_with flag other v else not (inner_means_with flag other v)
 
--- whether the other is a range, and both match the same of the versions, of which there are some
+-- whether the other is a range, and both match the same versions of the list, of which there are some
 abbrev pub match_same : PreRelease → RangeSetOrTag → List Version → RangeSetOrTag → Bool
 match_same flag one versions other = (not (length versions == 0) && is_none (tag_of other)) && list_all (match_alike flag one other) versions
 
@@ -37,7 +37,7 @@ made_text flag read sorted = set_text (ranges_of (inner_means_with flag read) so
 abbrev pub shorter : Bool → List ℕ → List ℕ → List ℕ
 shorter is_as_good made text = if is_as_good && nat_lt (length made) (length text) then made else text
 
--- the range of this text, or what is made of the versions if it's shorter and, parsed by the same grammar, matches the same of them
+-- the range of this text, or what is made of the versions if it's shorter and, parsed by the same grammar, matches the same of the list
 pub record Simplified (flag : PreRelease) (f : Flavour) (text : List ℕ) (read : RangeSetOrTag) (versions : List Version) (simplified : List ℕ) : Type 0 where
   pub sorted : List Version
   pub is_sorted : IsAscending versions sorted

@@ -1,4 +1,4 @@
-//! A short range that matches the same of several versions, as node-semver's `simplifyRange` makes it.
+//! A short range that matches the same versions of a list, as node-semver's `simplifyRange` makes it.
 
 ghost use Rattle.std.specs.Prelude.{◌≡◌, None, false, string_bytes};
 ghost use Rattle.std.specs.List.{list_all};
@@ -19,7 +19,7 @@ use semver_req::range_set_or_tag::{PackageTag, RangeSetOrTag};
 use semver_req::req::VersionReq;
 use std::alloc::Global;
 
-// Whether both ranges, none of which is a tag, match the same of the versions.
+// Whether both ranges, none of which is a tag, match the same versions of the list.
 fn match_alike(
     pre_release: PreRelease,
     one: &VersionReq,
@@ -40,7 +40,7 @@ fn match_alike(
     true
 }
 
-// Whether the text is a range that matches the same of the versions as this one, which isn't a tag.
+// Whether the text is a range that matches the same versions of the list as this one, which isn't a tag.
 fn matches_same(
     alloc: Global,
     flavour: Flavour,
@@ -64,8 +64,8 @@ fn matches_same(
     }
 }
 
-/// What is a short range that matches the same of the versions? It is the shorter of two: the range as it is written, and the ranges in
-/// which the versions match, in canonical form, if they match the same when parsed again. The first invalid argument is the problem.
+/// What is a short range that matches the same versions of the list? It is the shorter of two: the range as it is written, and the ranges
+/// in which the versions match, in canonical form, if they match the same when parsed again. The first invalid argument is the problem.
 pub fn simplified(
     alloc: Global,
     flavour: Flavour,

@@ -197,7 +197,7 @@ pub fn outdated<R: Input, O: Write, E: Write>(
     Ok(status.worse(Status::of(!standing.is_outdated())))
 }
 
-/// `ranges simplify RANGE [VERSION..]`: a short range that matches the same of the versions.
+/// `ranges simplify RANGE [VERSION..]`: a short range that matches the same versions of the list.
 pub fn simplify<R: Input, O: Write, E: Write>(
     rt: &R,
     console: &mut Console<O, E>,

@@ -474,7 +474,7 @@ pub extern "C" fn semver_lowest(
     report_best(answer, place)
 }
 
-/// The shortest range that matches the same of several versions, one per line: yes, with its text, which is the range as it is
+/// A short range that matches the same versions of a list, one per line: yes, with its text, which is the range as it is
 /// written, or the ranges in which the versions match, in canonical form; or that the range is a tag. With an invalid version
 /// `place` is its line.
 #[unsafe(no_mangle)]

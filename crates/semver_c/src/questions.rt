@@ -195,7 +195,7 @@ pub fn best_line(
     .map_err(Problem::from)
 }
 
-/// What is the shortest range that matches the same of the versions, one per line?
+/// What is a short range that matches the same versions of the list, one per line?
 pub fn simplified_of(
     alloc: Global,
     grammar: u32,

@@ -571,7 +571,7 @@ Examples:
     },
     Entry {
         name: "simplify",
-        about: "Print a short range that matches the same of the versions",
+        about: "Print a short range that matches the same versions",
         arguments: &[
             JSON,
             GRAMMAR,
