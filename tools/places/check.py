@@ -194,12 +194,20 @@ COMPARATORS = (("", "", "^", "~", "~>", ">=", "< ", "= ", "v"), *(NUMBER_TEXTS, 
 
 def random_comparators(source):
     """Comparators of such numbers, most of which are a text of some grammar."""
-    count = source.choice((1, 1, 2, 3))
+    count = source.choice((1, 1, 2, 3, 5))
     return source.choice((" ", " ", " - ", ",")).join("".join(map(source.choice, COMPARATORS)) for _ in range(count))
 
 
+# Comparators, and what separates them: behind two or more, the parser looks only at the rest.
+FRONT = ("1", "x", ">=1.2.3", "^0.0", "~ 1", "v1.x", "= 1.2.3-rc.1", "<*")
+SEPARATORS = (" ", " ", "  ", "\u3000", ",", " , ", "&& ")
+
+
 def random_text(source):
-    return "".join(source.choices(PIECES, k=source.randint(0, 12)))
+    """Characters and parts of ranges, behind a list of comparators or not."""
+    count = source.choice((0, 0, 0, 1, 2, 3, 5))
+    front = "".join(source.choice(FRONT) + source.choice(SEPARATORS) for _ in range(count))
+    return front + "".join(source.choices(PIECES, k=source.randint(0, 12)))
 
 
 def random_version(source):
