@@ -11,7 +11,7 @@ _ranges() {
         any-zero|contained-alternative|disjoint-sections|dropped-alternative|duplicate-key|empty-alternative|ignored-comparator|meta-without-range|no-match|not-canonical|npm-differs|odd-engine|odd-path|odd-section|odd-tag|odd-version|pre-release-bound|unmatched-workspace) COMPREPLY=($(compgen -W "off warn error" -- "$word")); return ;;
     esac
     if [ "$COMP_CWORD" = 1 ]; then
-        COMPREPLY=($(compgen -W "check asked explain canonical normal min common within overlap scans package reference filter matches best outdated compare sort key increment difference coerce help --help --version" -- "$word"))
+        COMPREPLY=($(compgen -W "check asked explain canonical normal min common within overlap scans package reference filter matches best outdated simplify compare sort key increment difference coerce help --help --version" -- "$word"))
         return
     fi
     case ${COMP_WORDS[1]} in
@@ -26,9 +26,10 @@ _ranges() {
         scans) options="--color -j --json -g --grammar -p --pre -q --quiet --where -h --help -V --version" ;;
         package) options="--color -j --json -g --grammar -h --help -V --version" ;;
         reference) options="--color -j --json -h --help -V --version" ;;
-        filter|matches) options="--color -j --json -g --grammar -p --pre -q --quiet -0 --null --tags --skip-invalid --range -h --help -V --version" ;;
+        filter|matches) options="--color -j --json -g --grammar -p --pre -q --quiet -v --invert-match -0 --null --tags --skip-invalid --range -h --help -V --version" ;;
         best) options="--color -j --json -g --grammar -p --pre -q --quiet -0 --null --tags --skip-invalid --range -h --help -V --version" ;;
         outdated) options="--color -j --json -g --grammar -p --pre -q --quiet -0 --null --tags --skip-invalid -h --help -V --version" ;;
+        simplify) options="--color -j --json -g --grammar -p --pre -0 --null --tags --skip-invalid -h --help -V --version" ;;
         compare) options="--color -j --json -h --help -V --version" ;;
         sort) options="--color -j --json -r --reverse -0 --null --tags --skip-invalid -h --help -V --version" ;;
         key) options="--color -j --json -0 --null --tags --skip-invalid -h --help -V --version" ;;
