@@ -59,7 +59,7 @@ test:
 
 # A program is proved with the crates below it, in silence for minutes at a time, before it is built; after a passed gate it alone is.
 crates/ranges/out/ranges: $(SOURCES)
-	@echo 'Proving and building ranges: half an hour the first time, with long silences, then only what changed.'
+	@echo 'Proving and building ranges: over an hour the first time, with long silences, then only what changed.'
 	@packaging/program.py ranges --version
 	@touch $@
 
@@ -101,7 +101,7 @@ $(OUT)/deno_semver.pc: packaging/deno_semver.pc.in Makefile | $(OUT)
 
 # The last line of the proofs and mutations.
 out/gate: $(shell git ls-files crates crates.txt HANDLES 2>/dev/null) | out
-	@echo 'Proving every crate and trying every mutation: three quarters of an hour if nothing is kept.'
+	@echo 'Proving every crate and trying every mutation: over an hour if nothing is kept.'
 	@rt ci >out/gate.log 2>&1 || { tail -5 out/gate.log >&2; exit 1; }
 	@tail -1 out/gate.log >$@
 
