@@ -21,6 +21,7 @@ use package_answers::references::read_reference;
 use semver_req::common::values::Flavour;
 use std::alloc::{AllocError, Global};
 use std::collections::{HashMap, HashSet};
+use std::fs;
 use std::io::Write;
 use std::rt::{Files, Runtime};
 use terminal::console::{Console, Status, Stop, print_line};
@@ -1176,6 +1177,26 @@ fn fix<R: Runtime + AllocGlobal, O: Write, E: Write>(
     write_all(rt, console, changed)
 }
 
+// Prints the paths of files, but reports those that aren't there.
+fn print_files<R: Files + AllocGlobal, O: Write, E: Write>(
+    rt: &R,
+    console: &mut Console<O, E>,
+    groups: &[Group],
+) -> Result<Status, Stop> {
+    let mut status = Status::Answered;
+    for path in groups.iter().flat_map(|group| group.paths.iter()) {
+        let path = path.as_str();
+        if path != "-" && !fs::exists(rt, path).unwrap_or(true) {
+            status = status.worse(console.complain(Shown(path), "no such file"));
+        } else if console.options.null {
+            write!(console.out, "{path}\0")?;
+        } else {
+            print_line(&mut console.out, Shown(path))?;
+        }
+    }
+    Ok(status)
+}
+
 /// `ranges check [FILE..]`: the ranges of each file that are refused, or legal and probably a mistake.
 pub fn check<R: Runtime + AllocGlobal, O: Write, E: Write>(
     rt: &R,
@@ -1189,14 +1210,7 @@ pub fn check<R: Runtime + AllocGlobal, O: Write, E: Write>(
     let Manifests { groups, mut status } = found;
     let groups = groups.as_slice();
     if matches.get_flag("files") {
-        for path in groups.iter().flat_map(|group| group.paths.iter()) {
-            if console.options.null {
-                write!(console.out, "{}\0", path.as_str())?;
-            } else {
-                print_line(&mut console.out, Shown(path.as_str()))?;
-            }
-        }
-        return Ok(status);
+        return Ok(status.worse(print_files(rt, console, groups)?));
     }
     let report = Report::new(matches);
     let is_dry = matches.get_flag("dry-run");

@@ -60,6 +60,38 @@ fn shown_from(lines: &[Line<'_>], place: usize) -> usize {
     count
 }
 
+// The name of a file in a header: behind a first name, which git takes off, but for standard input and for a path from the top of the
+// system. As git writes it, in quotes if it has control characters.
+fn name_in_header(alloc: Global, first: &str, path: &str) -> Result<String, AllocError> {
+    let first = if path == "-" || path.starts_with('/') {
+        ""
+    } else {
+        first
+    };
+    if !path.contains(|c: char| c.is_ascii_control()) {
+        return format!(in alloc; "{first}{path}");
+    }
+    let mut name = format!(in alloc; "\"{first}")?;
+    for c in path.chars() {
+        match c {
+            '\t' => name.push_str("\\t")?,
+            '\n' => name.push_str("\\n")?,
+            '"' | '\\' => {
+                name.push('\\')?;
+                name.push(c)?;
+            }
+            c if c.is_ascii_control() => {
+                let code = u32::from(c);
+                let (high, middle, low) = (code / 64, code / 8 % 8, code % 8);
+                name.push_str(format!(in alloc; "\\{high}{middle}{low}")?.as_str())?;
+            }
+            c => name.push(c)?,
+        }
+    }
+    name.push('"')?;
+    Ok(name)
+}
+
 // Prints a line behind a sign.
 fn print_line<O: Write>(out: &mut O, style: Style, sign: char, line: &str) -> Result<(), Stop> {
     let text = line.strip_suffix('\n').unwrap_or(line);
@@ -107,16 +139,12 @@ pub fn print_diff<'t, O: Write, E: Write>(
 ) -> Result<(), Stop> {
     let lines = lines(console.alloc, old, new)?;
     let lines = lines.as_slice();
+    let before = name_in_header(console.alloc, "a/", path)?;
+    let behind = name_in_header(console.alloc, "b/", path)?;
     let (out, style) = (&mut console.out, console.terminal.out);
     let (header, numbers, end) = (style.code(HEADER), style.code(NUMBERS), style.code(END));
-    // git takes the first name off a path.
-    let (before, behind) = if path == "-" || path.starts_with('/') {
-        ("", "")
-    } else {
-        ("a/", "b/")
-    };
-    writeln!(out, "{header}--- {before}{path}{end}")?;
-    writeln!(out, "{header}+++ {behind}{path}{end}")?;
+    writeln!(out, "{header}--- {}{end}", before.as_str())?;
+    writeln!(out, "{header}+++ {}{end}", behind.as_str())?;
     let mut done = 0usize;
     for place in 0..lines.len() {
         if place < done || !is_shown(lines, place) {

@@ -14,6 +14,7 @@ use package_answers::references::read_reference;
 use semver_req::common::values::Flavour;
 use semver_req::error_places::pieces::invalid_pieces_behind;
 use std::alloc::{AllocError, Global};
+use std::collections::HashSet;
 use std::fs::{Metadata, OpenFile, OpenOptions, Permissions};
 use std::io::{ErrorKind, Write};
 use std::os::unix::fs as unix;
@@ -817,8 +818,13 @@ pub fn print_diffs<R: Files + AllocGlobal, O: Write, E: Write>(
         }
     }
     let paths = paths_in_diff(rt, console, files.as_slice())?;
+    // A file that is reached by several names has one path.
+    let mut printed = HashSet::new(console.alloc);
     for (file, path) in changed.iter().zip(paths.iter()) {
-        print_diff(console, path.as_str(), file.old.as_str(), file.new.as_str())?;
+        let path = path.as_str();
+        if printed.insert(path)? {
+            print_diff(console, path, file.old.as_str(), file.new.as_str())?;
+        }
     }
     Ok(if changed.is_empty() {
         Status::Answered

@@ -440,7 +440,7 @@ struct Waiting {
     outer: usize,
 }
 
-// Lists a folder, or reports that it can't be read, or that a name in it can't.
+// Lists a folder, or reports that it can't be read. A note says whether a name in it can't: most such names are no manifests.
 fn listed<R: Runtime + AllocGlobal, O: Write, E: Write>(
     rt: &R,
     console: &mut Console<O, E>,
@@ -451,9 +451,8 @@ fn listed<R: Runtime + AllocGlobal, O: Write, E: Write>(
     match list(rt, folder, left) {
         Ok(held) => {
             if held.has_other {
-                let message = "passed over a name that isn't valid UTF-8";
-                let told = console.complain(Shown(shown_folder(folder)), message);
-                *status = status.worse(told);
+                let folder = Shown(shown_folder(folder));
+                console.tell(format_args!("{folder}: passed over a name that isn't valid UTF-8"));
             }
             Ok(Some(held))
         }
