@@ -7,10 +7,10 @@ use crate::findings::{Cause, Finding, Format, Position, Report};
 use crate::fixing::{
     Rewritten, apply, is_rewritten, is_tag, pieces_of, print_diffs, rewrite, set_above, write_all,
 };
-use crate::known::{Known, is_of_npm, known_of};
+use crate::known::{Known, Manager, is_of_npm, known_of, linked_by};
 use crate::overriding::Overrides;
 use crate::rules::{Level, Levels, Rule};
-use crate::walking::{Group, Manifests, find, path_in_repository, read_file};
+use crate::walking::{Group, Manifests, add_roots, find, path_in_repository, read_file};
 use answers::asking::{Answer, Problem};
 use answers::explained::{Explanation, Meaning, Piece, explain};
 use answers::questions::{common_version, displayed};
@@ -742,6 +742,10 @@ struct Checked<'f> {
     unmatched: &'f [String],
     /// What is known of the workspace.
     known: &'f Known,
+    /// Who installs it.
+    manager: Manager,
+    /// The workspaces that npm links for it, whatever it asks of them, by name.
+    linked: &'f HashSet<String>,
     /// The settings of the arguments.
     settings: &'f [&'f str],
 }
@@ -776,9 +780,8 @@ fn check_relations<'e, O: Write, E: Write>(
                 let message = "npm refuses it: no package has such a name";
                 report.add(console, entry, Finding::new(Cause::Refused, message))?;
             }
-            // npm links the workspaces of a root, whatever it asks of them.
-            let is_linked = file.is_root && file.known.has_workspace(entry.name.as_str());
             if names.is_of_npm == Some(true) {
+                let is_linked = file.linked.contains(entry.name.as_str());
                 if npm::is_foreign(entry.text.as_str()) && !is_linked {
                     let message = foreign(names.is_named);
                     report.add(console, entry, Finding::new(Cause::Refused, message))?;
@@ -960,13 +963,13 @@ fn check_entries<O: Write, E: Write>(
     file: Checked<'_>,
     entries: &[Entry],
 ) -> Result<(), Stop> {
-    let named = is_of_npm(entries).or(file.known.named(file.is_root));
+    let named = is_of_npm(entries).or(file.manager.named);
     let mut names = Names {
         asked: HashMap::new(console.alloc),
         peers: HashSet::new(console.alloc),
         overrides: Overrides::of(console.alloc, entries)?,
         has_packages: entries.iter().any(|entry| entry.kind == Kind::Packages),
-        is_of_npm: named.or(file.known.locked(file.is_root)),
+        is_of_npm: named.or(file.manager.locked),
         is_named: named.is_some(),
     };
     for entry in entries
@@ -1046,6 +1049,23 @@ fn is_root(group: &Group, place: usize) -> bool {
     group.above.is_empty() && (place < group.own || group.own == 0)
 }
 
+// The workspaces that npm links for the file at a place of a group, if that is a root that npm installs.
+fn linked_at<R: Runtime + AllocGlobal, O: Write, E: Write>(
+    rt: &R,
+    console: &Console<O, E>,
+    group: &Group,
+    place: usize,
+    manager: Manager,
+) -> Result<HashSet<String>, Stop> {
+    match (group.paths.get(place), group.roots.get(place)) {
+        (Some(path), Some(root))
+            if path.as_str() == root.as_str() && manager.named.or(manager.locked) == Some(true) => {
+            linked_by(rt, console, root.as_str())
+        }
+        (_, _) => Ok(HashSet::new(console.alloc)),
+    }
+}
+
 // The path that findings name: in what GitHub reads, the one from the top of the repository.
 fn shown_path<R: Files + AllocGlobal>(rt: &R, format: Format, path: &str) -> Result<String, Stop> {
     if !format.is_of_repository() {
@@ -1059,7 +1079,7 @@ fn shown_path<R: Files + AllocGlobal>(rt: &R, format: Format, path: &str) -> Res
 }
 
 // Checks the files of a group.
-fn check_group<R: Input + Files + AllocGlobal, O: Write, E: Write>(
+fn check_group<R: Runtime + AllocGlobal, O: Write, E: Write>(
     rt: &R,
     console: &mut Console<O, E>,
     report: &Report<'_>,
@@ -1073,6 +1093,8 @@ fn check_group<R: Input + Files + AllocGlobal, O: Write, E: Write>(
     for (place, path) in group.paths.iter().enumerate() {
         let path = path.as_str();
         let shown = shown_path(rt, report.format, path)?;
+        let manager = known.manager(place);
+        let linked = linked_at(rt, console, group, place, manager)?;
         let file = Checked {
             path,
             shown: shown.as_str(),
@@ -1081,6 +1103,8 @@ fn check_group<R: Input + Files + AllocGlobal, O: Write, E: Write>(
             is_own: place < group.own,
             unmatched: group.unmatched.as_slice(),
             known: &known,
+            manager,
+            linked: &linked,
             settings,
         };
         status = status.worse(check_file(rt, console, &mut report, file)?);
@@ -1089,7 +1113,7 @@ fn check_group<R: Input + Files + AllocGlobal, O: Write, E: Write>(
 }
 
 // Prints on standard error what --fix leaves in the files of a group, from this place on.
-fn check_rewritten<R: Files + AllocGlobal, O: Write, E: Write>(
+fn check_rewritten<R: Runtime + AllocGlobal, O: Write, E: Write>(
     rt: &R,
     console: &mut Console<O, E>,
     report: &Report<'_>,
@@ -1102,6 +1126,8 @@ fn check_rewritten<R: Files + AllocGlobal, O: Write, E: Write>(
     let known = known_of(rt, group)?;
     set_above(rt, &mut report.levels, group)?;
     for (place, file) in files.iter().enumerate() {
+        let manager = known.manager(place);
+        let linked = linked_at(rt, console, group, place, manager)?;
         let file = Checked {
             path: file.path.as_str(),
             shown: file.path.as_str(),
@@ -1110,6 +1136,8 @@ fn check_rewritten<R: Files + AllocGlobal, O: Write, E: Write>(
             is_own: place < group.own,
             unmatched: group.unmatched.as_slice(),
             known: &known,
+            manager,
+            linked: &linked,
             settings,
         };
         status = status.worse(check_text(console, &mut report, file)?);
@@ -1118,7 +1146,7 @@ fn check_rewritten<R: Files + AllocGlobal, O: Write, E: Write>(
 }
 
 // Prints what --fix would change, and on standard error what it would leave.
-fn check_dry<R: Input + Files + AllocGlobal, O: Write, E: Write>(
+fn check_dry<R: Runtime + AllocGlobal, O: Write, E: Write>(
     rt: &R,
     console: &mut Console<O, E>,
     report: &Report<'_>,
@@ -1207,11 +1235,15 @@ pub fn check<R: Runtime + AllocGlobal, O: Write, E: Write>(
     try_settings(console, settings)?;
     let excludes = matches.get_strs("exclude").unwrap_or(&[]);
     let found = find(rt, console, matches.get_strs("FILE"), excludes)?;
-    let Manifests { groups, mut status } = found;
-    let groups = groups.as_slice();
+    let Manifests {
+        mut groups,
+        mut status,
+    } = found;
     if matches.get_flag("files") {
         return Ok(status.worse(print_files(rt, console, groups)?));
     }
+    add_roots(rt, console, groups.as_mut_slice())?;
+    let groups = groups.as_slice();
     let report = Report::new(matches);
     let is_dry = matches.get_flag("dry-run");
     if is_dry || matches.get_flag("fix") {

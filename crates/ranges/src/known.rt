@@ -1,7 +1,7 @@
 //! What the files of a workspace say of one another: the names and versions of its packages, and pnpm's catalogs.
 
 use crate::catalogs::{Catalogs, catalog_name, shelve, text_in};
-use crate::walking::{Group, split_path};
+use crate::walking::{Group, members_of, split_path};
 use answers::asking::{Answer, Problem};
 use answers::questions::matches;
 use deno_semver::PreRelease;
@@ -9,13 +9,15 @@ use semver_req::common::values::Flavour;
 use std::alloc::{AllocError, Global};
 use std::collections::{BTreeMap, HashSet};
 use std::fs;
-use std::io::ErrorKind;
-use std::rt::Files;
-use terminal::console::Stop;
+use std::io::{ErrorKind, Write};
+use std::rt::{Files, Runtime};
+use terminal::console::{Console, Stop};
 use terminal::entry::Entry;
 use terminal::hints::behind_protocol;
 use terminal::manifest::entries;
-use terminal::npm::{Source, ends_in_key, is_package_name, name_and_range, renamed, source_of};
+use terminal::npm::{
+    Source, ends_in_key, is_foreign, is_package_name, name_and_range, renamed, source_of,
+};
 use terminal::sections::Kind;
 use terminal::shown::part;
 
@@ -44,12 +46,25 @@ pub struct Known {
     direct: Option<HashSet<String>>,
     /// Whether all of them are known.
     is_whole: bool,
-    /// Whether the files are all of the workspace.
-    is_of_members: bool,
+    /// Who installs each file.
+    managers: Vec<Manager>,
+}
+
+/// Who installs a file, by its root.
+#[derive(Clone, Copy)]
+pub struct Manager {
     /// Whether `packageManager` of the root names npm; none if it names none.
-    named: Option<bool>,
+    pub named: Option<bool>,
     /// Whether the lockfile beside the root's manifest is npm's; none if there is no lockfile, or those of several package managers.
-    locked: Option<bool>,
+    pub locked: Option<bool>,
+}
+
+impl Manager {
+    // Nothing says who.
+    const UNKNOWN: Manager = Manager {
+        named: None,
+        locked: None,
+    };
 }
 
 // The name of the package that a key of pnpm's overrides is about.
@@ -103,28 +118,16 @@ impl Known {
             names: BTreeMap::new(alloc),
             direct: None,
             is_whole: false,
-            is_of_members: false,
-            named: None,
-            locked: None,
+            managers: Vec::new(alloc),
         }
     }
 
-    /// Whether `packageManager` of the root names npm, if that counts for a file.
-    pub fn named(&self, is_root: bool) -> Option<bool> {
-        if is_root || self.is_of_members {
-            self.named
-        } else {
-            None
-        }
-    }
-
-    /// Whether the lockfile beside the root's manifest is npm's, if that counts for a file.
-    pub fn locked(&self, is_root: bool) -> Option<bool> {
-        if is_root || self.is_of_members {
-            self.locked
-        } else {
-            None
-        }
+    /// Who installs the file at a place of the group.
+    pub fn manager(&self, place: usize) -> Manager {
+        self.managers
+            .get(place)
+            .copied()
+            .unwrap_or(Manager::UNKNOWN)
     }
 
     /// Whether the workspace is pnpm's.
@@ -169,8 +172,8 @@ impl Known {
         Ok(())
     }
 
-    /// Whether a workspace has this name.
-    pub fn has_workspace(&self, name: &str) -> bool {
+    // Whether a workspace has this name.
+    fn has_workspace(&self, name: &str) -> bool {
         self.names.get(name).copied().unwrap_or(0) > 0
     }
 
@@ -358,36 +361,64 @@ pub fn is_of_npm(entries: &[Entry]) -> Option<bool> {
     Some(manager.starts_with("npm@"))
 }
 
-// Learns which package manager installs the root of a group.
-fn learn_manager<R: Files + AllocGlobal>(
+// Who installs the files of a root; an empty path is none.
+fn manager_of<R: Files + AllocGlobal>(rt: &R, root: &str) -> Result<Manager, Stop> {
+    if root.is_empty() {
+        return Ok(Manager::UNKNOWN);
+    }
+    let (folder, _) = split_path(root);
+    Ok(Manager {
+        named: is_of_npm(entries_of(rt, root)?.as_slice()),
+        locked: is_locked_by_npm(rt, folder)?,
+    })
+}
+
+// Who installs each file of a group. Those of a root stand together.
+fn managers_of<R: Files + AllocGlobal>(rt: &R, group: &Group) -> Result<Vec<Manager>, Stop> {
+    let mut managers = Vec::new(rt.alloc());
+    let (mut last, mut manager) = ("", Manager::UNKNOWN);
+    for root in group.roots.iter() {
+        let root = root.as_str();
+        if root != last {
+            manager = manager_of(rt, root)?;
+            last = root;
+        }
+        managers.push(manager)?;
+    }
+    Ok(managers)
+}
+
+/// The names of the workspaces that npm links for a root, if the root asks for a package by a protocol that npm doesn't know.
+pub fn linked_by<R: Runtime + AllocGlobal, O: Write, E: Write>(
     rt: &R,
-    group: &Group,
-    known: &mut Known,
-) -> Result<(), Stop> {
-    let count = group.root_count();
-    for path in group.above.iter().chain(group.paths.iter().take(count)) {
-        let (folder, name) = split_path(path.as_str());
-        if name == "package.json" {
-            known.named = is_of_npm(entries_of(rt, path.as_str())?.as_slice());
-            known.locked = is_locked_by_npm(rt, folder)?;
-            break;
+    console: &Console<O, E>,
+    root: &str,
+) -> Result<HashSet<String>, Stop> {
+    let alloc = rt.alloc();
+    let mut names = HashSet::new(alloc);
+    let entries = entries_of(rt, root)?;
+    if !entries.iter().any(|entry| is_foreign(entry.text.as_str())) {
+        return Ok(names);
+    }
+    for member in members_of(rt, console, root)? {
+        let entries = entries_of(rt, member.as_str())?;
+        if let Some(name) = text_of(entries.as_slice(), Kind::Name) {
+            let _ = names.insert(String::from_str(alloc, name)?)?;
         }
     }
-    Ok(())
+    Ok(names)
 }
 
 /// What the manifests of a group and those further up say of one another, if they are of a workspace.
 pub fn known_of<R: Files + AllocGlobal>(rt: &R, group: &Group) -> Result<Known, Stop> {
     let alloc = rt.alloc();
     let mut known = Known::new(alloc);
-    learn_manager(rt, group, &mut known)?;
+    known.managers = managers_of(rt, group)?;
     known.workspace = workspace_of(rt, group)?;
     if known.workspace == Workspace::None {
         return Ok(known);
     }
     known.is_whole = group.is_whole;
-    // A file of a workspace was given, or all of it.
-    known.is_of_members = group.is_whole || !group.above.is_empty() && group.own == 0;
     for path in group.above.iter() {
         known.learn(
             alloc,

@@ -49,6 +49,8 @@ pub struct Group {
     pub above: Vec<String>,
     /// The manifests that were found with these, and that another group has.
     pub others: Vec<String>,
+    /// The package.json of each one's root, as `add_roots` finds it; empty if there is none.
+    pub roots: Vec<String>,
 }
 
 impl Group {
@@ -69,6 +71,7 @@ impl Group {
             is_whole: false,
             above: Vec::new(alloc),
             others: Vec::new(alloc),
+            roots: Vec::new(alloc),
         }
     }
 
@@ -705,6 +708,75 @@ fn manifests_above<R: Runtime + AllocGlobal, O: Write, E: Write>(
     Ok(Vec::new(alloc))
 }
 
+// The package.json of the root that a manifest belongs to, which may be its own; an empty path if there is none.
+fn root_of<R: Runtime + AllocGlobal, O: Write, E: Write>(
+    rt: &R,
+    console: &Console<O, E>,
+    path: &str,
+    roots: &mut Roots,
+) -> Result<String, Stop> {
+    let alloc = console.alloc;
+    let (folder, name) = split_path(path);
+    if !NAMES.contains(&name) {
+        return Ok(String::new(alloc));
+    }
+    let above = manifests_above(rt, console, folder, &[], roots)?;
+    if above.is_empty() {
+        return Ok(format!(in alloc; "{folder}package.json")?);
+    }
+    for manifest in above {
+        if manifest.as_str().ends_with("/package.json") {
+            return Ok(manifest);
+        }
+    }
+    Ok(String::new(alloc))
+}
+
+/// Finds the root of each manifest by its own place, however it was found.
+pub fn add_roots<R: Runtime + AllocGlobal, O: Write, E: Write>(
+    rt: &R,
+    console: &Console<O, E>,
+    groups: &mut [Group],
+) -> Result<(), Stop> {
+    let mut asked = BTreeMap::new(console.alloc);
+    for group in groups.iter_mut() {
+        let mut roots = Vec::new(console.alloc);
+        for path in group.paths.iter() {
+            roots.push(root_of(rt, console, path.as_str(), &mut asked)?)?;
+        }
+        group.roots = roots;
+    }
+    Ok(())
+}
+
+/// The manifests of the workspaces that the package.json of a root names.
+pub fn members_of<R: Runtime + AllocGlobal, O: Write, E: Write>(
+    rt: &R,
+    console: &Console<O, E>,
+    root: &str,
+) -> Result<Vec<String>, Stop> {
+    let alloc = console.alloc;
+    let (out, err) = (io::sink(), io::sink());
+    let mut silent = Console::new(alloc, out, err, console.terminal, console.options);
+    let mut workspaces = Vec::new(alloc);
+    let mut status = add_workspaces(rt, &mut silent, root, &mut workspaces)?;
+    let mut members = Vec::new(alloc);
+    if workspaces.is_empty() {
+        return Ok(members);
+    }
+    let (folder, _) = split_path(root);
+    let below = manifests_in(rt, &mut silent, folder, Vec::new(alloc), &mut status)?;
+    for path in below.paths {
+        let (own, name) = split_path(path.as_str());
+        let rest = own.strip_prefix(folder).unwrap_or("");
+        let is_below = name == "package.json" && !rest.is_empty();
+        if is_below && is_workspace(alloc, workspaces.as_mut_slice(), rest)? {
+            members.push(path)?;
+        }
+    }
+    Ok(members)
+}
+
 // Adds the manifests of the workspaces below this folder.
 fn add_members<R: Runtime + AllocGlobal, O: Write, E: Write>(
     rt: &R,
@@ -1058,6 +1130,7 @@ fn without_seen<R: Files + AllocGlobal>(
         is_whole,
         mut above,
         mut others,
+        roots,
     } = group;
     let mut kept = Vec::new(alloc);
     let (mut kept_own, mut place) = (0usize, 0usize);
@@ -1084,6 +1157,7 @@ fn without_seen<R: Files + AllocGlobal>(
         is_whole,
         above,
         others,
+        roots,
     })
 }
 
