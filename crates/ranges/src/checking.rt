@@ -531,6 +531,12 @@ fn check_key_part<O: Write, E: Write>(
     report.add_with(console, entry, Cause::Refused, message, &errors)
 }
 
+// Whether npm takes the name in a key of overrides for that of a package, and not for a file, as it takes `x.tgz`.
+fn names_package(name: &str) -> bool {
+    let is_scoped = name.starts_with('@');
+    is_package_name(name) && (is_scoped || matches!(source_of(name), Source::Registry(_)))
+}
+
 // Checks a key of overrides, in which this text stands before another name.
 fn check_key<O: Write, E: Write>(
     console: &mut Console<O, E>,
@@ -540,7 +546,7 @@ fn check_key<O: Write, E: Write>(
 ) -> Result<(), Stop> {
     let key = entry.text.as_str();
     let is_of_npm = separator.is_empty();
-    if is_of_npm && !is_package_name(name_and_range(key).0) {
+    if is_of_npm && !names_package(name_and_range(key).0) {
         let message = "npm refuses it: Override without name";
         return report.add(console, entry, Finding::new(Cause::Refused, message));
     }
