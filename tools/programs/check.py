@@ -477,6 +477,8 @@ def applied():
             ([f"{here}/list"], here, "", 0),
             (["../here/./list"], here, "", 0),
             (["link"], here, "", 0),
+            (["list", "link", "./list"], here, "", 0),
+            (["t\tb\n\"\\\x01"], here, "", 0),
             (["../beside/list"], top, at_top, 0),
             (["list", f"{top}/beside/list"], top, at_top, 0),
             (["../../far/list"], here, outside.format("../../far/list"), 1),

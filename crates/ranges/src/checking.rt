@@ -1246,7 +1246,7 @@ pub fn check<R: Runtime + AllocGlobal, O: Write, E: Write>(
         mut status,
     } = found;
     if matches.get_flag("files") {
-        return Ok(status.worse(print_files(rt, console, groups)?));
+        return Ok(status.worse(print_files(rt, console, groups.as_slice())?));
     }
     add_roots(rt, console, groups.as_mut_slice())?;
     let groups = groups.as_slice();
