@@ -76,7 +76,7 @@ for (const { arguments: given, stdout = '', stderr = '', tty } of table.trim().s
   if (stdout) {
     meanings++;
     test(`what ${JSON.stringify(question)} means`, () => {
-      const printed = stdout.trimEnd().split('\n').filter((line) => !/^ {2}[|=] /.test(line));
+      const printed = stdout.trimEnd().split('\n').filter((line) => !/^( {2}[|=]|note:) /.test(line)); // notes are the program's own
       assert.deepEqual(linesOf(...question), printed);
     });
   }
