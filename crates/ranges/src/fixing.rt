@@ -87,6 +87,8 @@ fn found_in(alloc: Global, entry: &Entry) -> Result<Option<Found<'_>>, Stop> {
                 None => None,
             });
         }
+        // VS Code reads its range by a pattern of its own, which takes no other form.
+        Kind::Engine if entry.name.as_str() == "vscode" => return Ok(None),
         Kind::Engine => text,
         // A correction would be a guess.
         Kind::Dependency | Kind::Range if is_reference(text) => return Ok(None),

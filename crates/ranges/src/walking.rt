@@ -847,6 +847,20 @@ fn mark_hidden<R: Runtime + AllocGlobal>(
     Ok(())
 }
 
+// Whether no folder matches a pattern.
+fn is_unmatched(workspace: &Workspace) -> bool {
+    !workspace.has_match && !workspace.is_without
+}
+
+fn count_unmatched(workspaces: &[Workspace]) -> usize {
+    workspaces.iter().filter(|it| is_unmatched(it)).count()
+}
+
+// Whether a pattern names folders outside this one, which aren't read.
+fn is_elsewhere(workspace: &Workspace) -> bool {
+    workspace.text.as_str().starts_with("../")
+}
+
 // Finds the manifests of this folder, and those of its workspaces.
 fn manifests_here<R: Runtime + AllocGlobal, O: Write, E: Write>(
     rt: &R,
@@ -878,16 +892,24 @@ fn manifests_here<R: Runtime + AllocGlobal, O: Write, E: Write>(
     let members = workspaces.as_mut_slice();
     let told = add_members(rt, console, excludes, members, &mut found)?;
     *status = status.worse(told);
-    let is_unmatched = |it: &Workspace| !it.has_match && !it.is_without;
-    if excludes.is_empty() && workspaces.iter().any(is_unmatched) {
+    if !excludes.is_empty() {
+        return Ok(found);
+    }
+    let unmatched = count_unmatched(workspaces.as_slice());
+    if unmatched > 0 {
         mark_hidden(rt, workspaces.as_mut_slice())?;
     }
+    // A pattern that matches only folders that aren't read names workspaces that aren't known.
+    let is_read = count_unmatched(workspaces.as_slice()) == unmatched;
+    let mut has_elsewhere = false;
     for workspace in workspaces {
-        if excludes.is_empty() && !workspace.has_match && !workspace.is_without {
+        if is_elsewhere(&workspace) {
+            has_elsewhere = true;
+        } else if is_unmatched(&workspace) {
             found.unmatched.push(workspace.text)?;
         }
     }
-    found.is_whole = excludes.is_empty() && *status == Status::Answered;
+    found.is_whole = is_read && !has_elsewhere && *status == Status::Answered;
     Ok(found)
 }
 
