@@ -1,5 +1,6 @@
 pub mod AnyOrder
 pub mod WhitespaceBehind
+pub mod ComparatorLists
 pub mod ComparatorReadings
 pub mod Components
 pub mod Cuts

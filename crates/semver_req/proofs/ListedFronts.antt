@@ -344,35 +344,13 @@ front_boundary (Ranges Normal sizes) text n u h = h.boundary
 front_boundary (Ranges Specifier sizes) text n u h = rw h (IsCharBoundary-from_drop text 0 (omega arith) u)
 front_boundary Versions text n u h = rw h (IsCharBoundary-from_drop text 0 (omega arith) u)
 
--- what stands behind the front is the rest of the text, or the start of that
-pub stands_behind : (g : Grammar) (text : List ℕ) (n : ℕ) → IsFrontAt g text n → StandsBehind g (take n text) (drop n text)
-stands_behind (Ranges Npm sizes) text n h = h.behind
-stands_behind (Ranges Normal sizes) text n h = h.behind
-stands_behind (Ranges Specifier sizes) text n h = rw h refl
-stands_behind Versions text n h = rw h refl
-
 module _ (f : Flavour) (sizes : Sizes) where
-  leads_shorter : (text : List ℕ) (m : ℕ) → 0 < m → Leads f text → Leads f (take m text)
-  leads_shorter [] m some l = absurd l
-  leads_shorter (x ∷ text) zero some l = omega (arith, some)
-  leads_shorter (x ∷ text) (suc m) some l = l
-
-  behind_shorter : (front text : List ℕ) (m : ℕ) → 0 < m → IsBehind f sizes front text → IsBehind f sizes front (take m text)
-  behind_shorter front text m some (inl h) = inl h
-  behind_shorter front text m some (inr h) = inr (h.0, leads_shorter text m some h.1)
-
   listed_viable : (text : List ℕ) (n : ℕ) → IsListedAt f sizes text n → IsViablePrefix (Sized sizes (IsPieceOrCut f)) (take n text)
   listed_viable text n h = go h.behind
     where
       go : IsBehind f sizes (take n text) (drop n text) → IsViablePrefix (Sized sizes (IsPieceOrCut f)) (take n text)
       go (inl none) = rw none (record { more = []; value = []; is_text = IsUtf8-nil; stands = sized (IsPieceOrCut f) [] sizes (alone refl) tt })
       go (inr k) = front_viable f sizes (take n text) k.0
-
-pub stands_shorter : (g : Grammar) (text : List ℕ) (n m : ℕ) → 0 < m → IsFrontAt g text n → StandsBehind g (take n text) (take m (drop n text))
-stands_shorter (Ranges Npm sizes) text n m some h = behind_shorter Npm sizes (take n text) (drop n text) m some h.behind
-stands_shorter (Ranges Normal sizes) text n m some h = behind_shorter Normal sizes (take n text) (drop n text) m some h.behind
-stands_shorter (Ranges Specifier sizes) text n m some h = rw h refl
-stands_shorter Versions text n m some h = rw h refl
 
 pub viable_front : (g : Grammar) (text : List ℕ) (n : ℕ) → IsFrontAt g text n → IsViablePrefix (IsTextOf g) (take n text)
 viable_front (Ranges Npm sizes) text n h = listed_viable Npm sizes text n h

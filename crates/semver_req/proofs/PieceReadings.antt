@@ -32,9 +32,9 @@ hyphen_no_second {text} {rest} {next} {more} {c} {d} {cs} h l s m =
     let whole : text ≡ l.front ++ (s.front ++ (m.front ++ more)) = l.text_is ∙ ap (λ t. l.front ++ t) (s.text_is ∙ ap (λ t. s.front ++ t) m.text_is) in
     no_second l.front s.front m.front more c d cs (rw whole at h) l.stands s.stands m.stands
 
--- less is left after a separator and a comparator
-pub list_shorter : (f : Flavour) {rest next more : List ℕ} {c : Comparator} → IsLongest (IsSeparator f) rest tt next → IsLongest (IsComparator f) next c more → length more < length rest
-list_shorter f {rest} {next} {more} p q =
+-- less is left after a separator and an item
+pub list_shorter : (f : Flavour) {V : Type 0} {A : List ℕ → V → Type 0} {rest next more : List ℕ} {v : V} → IsLongest (IsSeparator f) rest tt next → IsLongest A next v more → length more < length rest
+list_shorter f {rest = rest} {next = next} {more = more} p q =
     omega (arith, some_text (listing f).separator_some p.front p.stands, ap length p.text_is, length-append p.front next, ap length q.text_is, length-append q.front more)
 
 -- ---- pieces

@@ -173,7 +173,3 @@ no_item = record { ref_ptr = (0, 0); now = [] }
 pub empty_viable : (g : Grammar) → IsViablePrefix (IsTextOf g) []
 empty_viable (Ranges f sizes) = empty_part f sizes
 empty_viable Versions = viable_by IsVersionText Any IsVersionText (λ t v h i. h) [] version_endings refl (endings_made [] IsUtf8-nil version_endings refl version_begun)
-
-pub text_some : (g : Grammar) (text : List ℕ) → (IsViablePrefix (IsTextOf g) text → ⊥) → 0 < length text
-text_some g [] never = absurd (never (empty_viable g))
-text_some g (x ∷ text) never = omega arith

@@ -1,4 +1,5 @@
 pub mod AnyOrder
+pub mod ComparatorLists
 pub mod Comparators
 pub mod RetainedSet
 pub mod Outcome

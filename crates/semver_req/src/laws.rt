@@ -14,6 +14,7 @@ ghost use Rattle.semver_req.specs.RetainedSet.{RetainedSetsMeanTheirTrees};
 ghost use Rattle.semver_req.specs.Outcome.{TextsHaveOneOutcome};
 ghost use Rattle.semver_req.specs.TextRejection.{TextsAreRejectedForOneReason};
 ghost use Rattle.semver_req.specs.Alternatives.{TextsHaveOneListOfAlternatives, TextsHaveOneListOfErrors, TextsLeaveTheirGrammarAtTheFirstError};
+ghost use Rattle.semver_req.specs.ComparatorLists.{AlternativesHaveOneListOfComparators};
 ghost use Rattle.semver_req.specs.Pieces.{NormalPiecesAreNpms};
 ghost use Rattle.semver_req.specs.AnyOrder.{TestsHaveOneLowestVersion};
 ghost use Rattle.semver_req.specs.Parsers.{ReadRequirementsAreAnswers};
@@ -65,6 +66,11 @@ pub fn texts_have_one_list_of_alternatives()
 /// rejected, and what is expected there.
 pub fn texts_have_one_list_of_errors()
     ensures { TextsHaveOneListOfErrors }
+{}
+
+/// An alternative has one list of comparators in each grammar: the text of each, and what it parses to by itself.
+pub fn alternatives_have_one_list_of_comparators()
+    ensures { AlternativesHaveOneListOfComparators }
 {}
 
 /// If the first invalid alternative of a text leaves the grammar, the whole text leaves it at the same place: what stands before that

@@ -47,7 +47,7 @@ impl RangeOrInvalid {
     // The range of one comparator, passed on unchanged but for its start. (Here and below values are dropped by name: to the
     // prover that is one call, instead of its steps at each way out.)
     #[inline(always)]
-    fn of_one(alloc: Global, written: Written) -> Result<RangeOrInvalid, AllocError>
+    pub(crate) fn of_one(alloc: Global, written: Written) -> Result<RangeOrInvalid, AllocError>
         ensures { (p : Partial) → written.partial ≡ sized_partial p
             → IfOk result (λ read. read ≡ joined (comparator_of written.operator p ∷ [])) }
     {
@@ -127,7 +127,7 @@ impl RangeOrInvalid {
     }
 
     // The range of a hyphen range, if its numbers fit: from the lower bound of the first partial version to the upper bound of the second.
-    fn between(alloc: Global, hyphen: &HyphenRange) -> Result<RangeOrInvalid, AllocError>
+    pub(crate) fn between(alloc: Global, hyphen: &HyphenRange) -> Result<RangeOrInvalid, AllocError>
         ensures { IfOk result (IsHyphenRead hyphen.now) }
     {
         let Measured::Fits(lower) = &hyphen.lower else {
