@@ -12,7 +12,8 @@ use Rattle.semver_base.specs.declared.range.PreRelease.{PreRelease}
 use Rattle.semver_base.specs.declared.range.PreRelease.TheVariants as pre_release
 use Rattle.semver_req.specs.declared.error_places.pieces.InvalidPiece.{InvalidPiece}
 use Rattle.answers.specs.Errors.{error_json, errors_json, expected_texts}
-use Rattle.answers.specs.ExplainedJson.{alternative_json, lowest_json, matches_json, meaning_json, numbers_text, pre_releases, pre_releases_json, ranges_explained}
+use Rattle.answers.specs.Explained.{shown}
+use Rattle.answers.specs.ExplainedJson.{alternative_json, comparator_json, lowest_json, matches_json, meaning_json, numbers_text, pre_releases, pre_releases_json, ranges_explained}
 use Rattle.answers.specs.declared.explained.Matches.{Matches}
 use Rattle.answers.specs.declared.explained.Meaning.{Meaning}
 use Rattle.answers.specs.declared.explained.Meaning.TheVariants as meaning
@@ -62,20 +63,28 @@ pre_releases_no_float : (flag : PreRelease) (m : Matches) → has_float (pre_rel
 pre_releases_no_float pre_release.Restricted m = texts_no_float (map numbers_text (pre_releases m))
 pre_releases_no_float pre_release.Admitted m = refl
 
-matches_no_float : (flag : PreRelease) (text : List ℕ) (m : Matches) → has_float (matches_json flag text m) ≡ false
-matches_no_float flag text m = ap (λ b. b || (has_float (lowest_json m.lowest) || (has_float (pre_releases_json flag m) || (has_float (bound_json m.range.start) || false)))) (bound_no_float m.range.end)
+each_comparator_no_float : (cs : List (List ℕ × VersionRange)) → items_have_float (items_of (map comparator_json cs)) ≡ false
+each_comparator_no_float [] = refl
+each_comparator_no_float (c ∷ cs) =
+    ap (λ b. (b || (has_float (bound_json c.1.start) || false)) || items_have_float (items_of (map comparator_json cs))) (bound_no_float c.1.end)
+    ∙ ap (λ b. (b || false) || items_have_float (items_of (map comparator_json cs))) (bound_no_float c.1.start)
+    ∙ each_comparator_no_float cs
+
+matches_no_float : (flag : PreRelease) (text : List ℕ) (cs : List (List ℕ × VersionRange)) (m : Matches) → has_float (matches_json flag text cs m) ≡ false
+matches_no_float flag text cs m = ap (λ b. b || (has_float (bound_json m.range.end) || (has_float (lowest_json m.lowest) || (has_float (pre_releases_json flag m) || (has_float (bound_json m.range.start) || false))))) (each_comparator_no_float cs)
+    ∙ ap (λ b. b || (has_float (lowest_json m.lowest) || (has_float (pre_releases_json flag m) || (has_float (bound_json m.range.start) || false)))) (bound_no_float m.range.end)
     ∙ ap (λ b. b || (has_float (pre_releases_json flag m) || (has_float (bound_json m.range.start) || false))) (lowest_no_float m.lowest)
     ∙ ap (λ b. b || (has_float (bound_json m.range.start) || false)) (pre_releases_no_float flag m)
     ∙ ap (λ b. b || false) (bound_no_float m.range.start)
 
-meaning_no_float : (flag : PreRelease) (text : List ℕ) (m : Meaning) → has_float (meaning_json flag text m) ≡ false
-meaning_no_float flag text (meaning.Range m) = matches_no_float flag text m
-meaning_no_float flag text (meaning.LeftOut e) = ap (λ b. b || false) (error_no_float e)
+meaning_no_float : (flag : PreRelease) (text : List ℕ) (cs : List (List ℕ × VersionRange)) (m : Meaning) → has_float (meaning_json flag text cs m) ≡ false
+meaning_no_float flag text cs (meaning.Range m) = matches_no_float flag text cs m
+meaning_no_float flag text cs (meaning.LeftOut e) = ap (λ b. b || false) (error_no_float e)
 
 alternatives_no_float : (flag : PreRelease) (pieces : List Piece) → items_have_float (items_of (map (alternative_json flag) pieces)) ≡ false
 alternatives_no_float flag [] = refl
 alternatives_no_float flag (p ∷ ps) =
-    ap (λ b. b || items_have_float (items_of (map (alternative_json flag) ps))) (meaning_no_float flag (trim (string_bytes p.text)) p.meaning) ∙ alternatives_no_float flag ps
+    ap (λ b. b || items_have_float (items_of (map (alternative_json flag) ps))) (meaning_no_float flag (trim (string_bytes p.text)) (map shown p.comparators.items) p.meaning) ∙ alternatives_no_float flag ps
 
 pub explained_no_float : (flag : PreRelease) (pieces : List Piece) (normal : List ℕ) → has_float (ranges_explained flag pieces normal) ≡ false
 explained_no_float flag pieces normal = ap (λ b. b || false) (alternatives_no_float flag pieces)

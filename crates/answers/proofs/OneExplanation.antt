@@ -7,6 +7,7 @@ use Rattle.semver_base.specs.declared.range.VersionRange.{VersionRange}
 use Rattle.semver_base.specs.declared.version.Version.{Version}
 use Rattle.semver_req.specs.Alternatives.{TextsHaveOneListOfAlternatives, parsed_as, reported, told}
 use Rattle.semver_req.specs.AnyOrder.{TestsHaveOneLowestVersion}
+use Rattle.semver_req.specs.ComparatorLists.{AlternativesHaveOneListOfComparators}
 use Rattle.semver_req.specs.Outcome as outcome
 use Rattle.semver_req.specs.Outcome.{IsOutcome, Outcome, Ranges, TextsHaveOneOutcome}
 use Rattle.semver_req.specs.Parsers.{IsRead, IsReading}
@@ -20,7 +21,7 @@ use Rattle.semver_req.specs.declared.range_set_or_tag.RangeSetOrTag.{RangeSetOrT
 use Rattle.semver_req.specs.declared.range_set_or_tag.RangeSetOrTag.TheVariants as inner
 use Rattle.answers.specs.Asking.{Fault, Invalid}
 use Rattle.answers.specs.ErrorLaws.{same_error_json}
-use Rattle.answers.specs.Explained.{AreExplained, AreMatches, IsExplained, IsExplainedPiece, IsMeaningOf, IsMeaningOfRange}
+use Rattle.answers.specs.Explained.{AreExplained, AreFitting, AreMatches, IsExplained, IsExplainedPiece, IsMeaningOf, IsMeaningOfRange, fitting, of_comparators, of_none, shown}
 use Rattle.answers.specs.ExplainedJson.{Explains, alternative_json, explained, explained_as, invalid_range, left_out_json, meaning_json}
 use Rattle.answers.specs.Reading.{IsRangeAt, not_parsed}
 use Rattle.answers.specs.declared.asking.Answer.{Answer}
@@ -41,7 +42,13 @@ matches_with range lowest of_start of_end = record { range = range; lowest = low
 same_truth : {W : Type 0} (a b : Bool) → IsTrue a ↔ W → IsTrue b ↔ W → a ≡ b
 same_truth a b h k = both_ways a b (λ yes. k.1 (h.0 yes)) (λ yes. h.1 (k.0 yes))
 
-module _ (lowest : TestsHaveOneLowestVersion) (flag : PreRelease) where
+fitting_one : AlternativesHaveOneListOfComparators → (f : Flavour) (text : List ℕ) (xs ys : List (List ℕ × VersionRange)) → AreFitting f text xs → AreFitting f text ys → xs ≡ ys
+fitting_one one f text xs ys (of_comparators {items} h) (of_comparators {items = others} k) = ap fitting (one f text items others h k)
+fitting_one one f text xs ys (of_comparators {items} h) (of_none none) = absurd (none items h)
+fitting_one one f text xs ys (of_none none) (of_comparators {items} k) = absurd (none items k)
+fitting_one one f text xs ys (of_none none) (of_none never) = refl
+
+module _ (lowest : TestsHaveOneLowestVersion) (comparators : AlternativesHaveOneListOfComparators) (f : Flavour) (flag : PreRelease) where
   matches_one : (m n : Matches) → m.range ≡ n.range → AreMatches flag m → AreMatches flag n → m ≡ n
   matches_one m n e h k =
       let low = lowest _ m.lowest n.lowest (rw e at h.lowest) k.lowest in
@@ -55,24 +62,26 @@ module _ (lowest : TestsHaveOneLowestVersion) (flag : PreRelease) where
   range_one range (meaning.LeftOut e) n h k = absurd h
   range_one range (meaning.Range m) (meaning.LeftOut e) h k = absurd k
 
-  meaning_one : (text : List ℕ) (p q : Parsed) (m n : Meaning) → parsed_as p ≡ parsed_as q → IsMeaningOf flag p m → IsMeaningOf flag q n → meaning_json flag text m ≡ meaning_json flag text n
-  meaning_one text (parsed.Range r) (parsed.Range s) m n e h k =
+  meaning_one : (text : List ℕ) (cs : List (List ℕ × VersionRange)) (p q : Parsed) (m n : Meaning) → parsed_as p ≡ parsed_as q → IsMeaningOf flag p m → IsMeaningOf flag q n
+      → meaning_json flag text cs m ≡ meaning_json flag text cs n
+  meaning_one text cs (parsed.Range r) (parsed.Range s) m n e h k =
       let range : r ≡ s = cc e in
-      ap (meaning_json flag text) (range_one s m n (rw range at h) k)
-  meaning_one text (parsed.Range r) (parsed.Invalid d) m n e h k = absurd (cc e)
-  meaning_one text (parsed.Invalid d) (parsed.Range s) m n e h k = absurd (cc e)
-  meaning_one text (parsed.Invalid d) (parsed.Invalid b) m n e h k =
+      ap (meaning_json flag text cs) (range_one s m n (rw range at h) k)
+  meaning_one text cs (parsed.Range r) (parsed.Invalid d) m n e h k = absurd (cc e)
+  meaning_one text cs (parsed.Invalid d) (parsed.Range s) m n e h k = absurd (cc e)
+  meaning_one text cs (parsed.Invalid d) (parsed.Invalid b) m n e h k =
       let same : reported d ≡ reported b = cc e in
-      ap (meaning_json flag text) h ∙ (ap (left_out_json text) (same_error_json d b same) ∙ sym (ap (meaning_json flag text) k))
+      ap (meaning_json flag text cs) h ∙ (ap (left_out_json text) (same_error_json d b same) ∙ sym (ap (meaning_json flag text cs) k))
 
-  piece_one : (a b : Alternative) (p q : Piece) → told a ≡ told b → IsExplainedPiece flag a p → IsExplainedPiece flag b q → alternative_json flag p ≡ alternative_json flag q
+  piece_one : (a b : Alternative) (p q : Piece) → told a ≡ told b → IsExplainedPiece f flag a p → IsExplainedPiece f flag b q → alternative_json flag p ≡ alternative_json flag q
   piece_one a b p q e h k =
       let text : a.text.now ≡ b.text.now = ap (λ t. t.0) e in
       let means : parsed_as a.parsed ≡ parsed_as b.parsed = ap (λ t. t.1) e in
-      let same : string_bytes p.text ≡ string_bytes q.text = h.0 ∙ (text ∙ sym k.0) in
-      rw same (meaning_one (trim (string_bytes q.text)) a.parsed b.parsed p.meaning q.meaning means h.1 k.1)
+      let same : string_bytes p.text ≡ string_bytes q.text = h.text ∙ (text ∙ sym k.text) in
+      let listed : map shown p.comparators.items ≡ map shown q.comparators.items = fitting_one comparators f b.text.now _ _ (rw text at h.comparators) k.comparators in
+      rw (same, listed) (meaning_one (trim (string_bytes q.text)) (map shown q.comparators.items) a.parsed b.parsed p.meaning q.meaning means h.meaning k.meaning)
 
-  pieces_one : (xs ys : List Alternative) (ps qs : List Piece) → map told xs ≡ map told ys → AreExplained flag xs ps → AreExplained flag ys qs → map (alternative_json flag) ps ≡ map (alternative_json flag) qs
+  pieces_one : (xs ys : List Alternative) (ps qs : List Piece) → map told xs ≡ map told ys → AreExplained f flag xs ps → AreExplained f flag ys qs → map (alternative_json flag) ps ≡ map (alternative_json flag) qs
   pieces_one [] [] [] [] e h k = refl
   pieces_one [] ys (p ∷ ps) qs e h k = absurd h
   pieces_one xs [] ps (q ∷ qs) e h k = absurd k
@@ -110,7 +119,7 @@ module _ (texts : TextsHaveOneOutcome) (f : Flavour) (text : List ℕ) where
   fault_one : TextsAreRejectedForOneReason → (fault other : Fault) → IsRangeAt f 0 text (Err fault) → IsRangeAt f 0 text (Err other) → fault ≡ other
   fault_one reason fault other (not_parsed {failure = e} some h) (not_parsed {failure = g} more k) = ap (Invalid kind.Range 0) (reason f text e g h.1 k.1 some more)
 
-  module _ (flag : PreRelease) (lowest : TestsHaveOneLowestVersion) (one_list : TextsHaveOneListOfAlternatives) where
+  module _ (flag : PreRelease) (lowest : TestsHaveOneLowestVersion) (one_list : TextsHaveOneListOfAlternatives) (comparators : AlternativesHaveOneListOfComparators) where
     explanation_one : (e g : Explanation) → IsExplained f flag text e → IsExplained f flag text g → explained_as flag e ≡ explained_as flag g
     explanation_one (explanation.Tag t) (explanation.Tag u) h k =
         let same : inner.Tag t ≡ inner.Tag u = reading_one (inner.Tag t) (inner.Tag u) h k in
@@ -119,7 +128,7 @@ module _ (texts : TextsHaveOneOutcome) (f : Flavour) (text : List ℕ) where
     explanation_one (explanation.Ranges ps n) (explanation.Tag t) (set, r, i, is) k = absurd (cc (reading_one (inner.RangeSet set) (inner.Tag t) r k))
     explanation_one (explanation.Ranges ps n) (explanation.Ranges qs m) (set, r, i, is) (sets, s, j, also) =
         let normal : string_bytes n ≡ string_bytes m = is ∙ (ap inner_text (reading_one (inner.RangeSet set) (inner.RangeSet sets) r s) ∙ sym also) in
-        let all = pieces_one lowest flag i.alternatives j.alternatives ps.items qs.items (one_list f 0 text i.alternatives j.alternatives i.are j.are) i.explained j.explained in
+        let all = pieces_one lowest comparators f flag i.alternatives j.alternatives ps.items qs.items (one_list f 0 text i.alternatives j.alternatives i.are j.are) i.explained j.explained in
         rw (all, normal) refl
 
     explained_or_rejected : {T : Type 0} (e : Explanation) (fault : Fault) → IsExplained f flag text e → IsRangeAt f 0 text (Err fault) → T

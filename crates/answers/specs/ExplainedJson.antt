@@ -10,11 +10,12 @@ use Rattle.semver_base.specs.declared.range.PreRelease.{PreRelease}
 use Rattle.semver_base.specs.declared.range.PreRelease.TheVariants as pre_release
 use Rattle.semver_base.specs.declared.range.RangeBound.{RangeBound}
 use Rattle.semver_base.specs.declared.range.RangeBound.TheVariants as bound
+use Rattle.semver_base.specs.declared.range.VersionRange.{VersionRange}
 use Rattle.semver_base.specs.declared.version.Version.{Version}
 use Rattle.semver_req.specs.declared.common.values.Flavour.{Flavour}
 use Rattle.answers.specs.Asking.{Fault}
 use Rattle.answers.specs.Errors.{error_json}
-use Rattle.answers.specs.Explained.{IsExplained}
+use Rattle.answers.specs.Explained.{IsExplained, shown}
 use Rattle.answers.specs.Parts.{bound_json}
 use Rattle.answers.specs.Reading.{IsRangeAt}
 use Rattle.answers.specs.declared.asking.Answer.{Answer}
@@ -68,26 +69,37 @@ abbrev pub lowest_json : Option Version → Data
 lowest_json (Some v) = string (version_text v)
 lowest_json None = null
 
--- a range: its bounds, the lowest version that matches, which pre-releases match, and its text
-abbrev pub matches_json : PreRelease → List ℕ → Matches → Data
-matches_json flag text m =
-    object (member (codes "end") (bound_json m.range.end)
+-- a comparator: the bounds of its range, and its text
+abbrev pub comparator_json : List ℕ × VersionRange → Data
+comparator_json c =
+    object (member (codes "end") (bound_json c.1.end)
+    (member (codes "start") (bound_json c.1.start)
+    (member (codes "text") (string c.0) no_members)))
+
+abbrev pub comparators_json : List (List ℕ × VersionRange) → Data
+comparators_json comparators = array (items_of (map comparator_json comparators))
+
+-- a range: its comparators, its bounds, the lowest version that matches, which pre-releases match, and its text
+abbrev pub matches_json : PreRelease → List ℕ → List (List ℕ × VersionRange) → Matches → Data
+matches_json flag text comparators m =
+    object (member (codes "comparators") (comparators_json comparators)
+    (member (codes "end") (bound_json m.range.end)
     (member (codes "lowest") (lowest_json m.lowest)
     (member (codes "pre-releases") (pre_releases_json flag m)
     (member (codes "start") (bound_json m.range.start)
-    (member (codes "text") (string text) no_members)))))
+    (member (codes "text") (string text) no_members))))))
 
 -- an alternative that is left out: its error and its text
 abbrev pub left_out_json : List ℕ → Data → Data
 left_out_json text error = object (member (codes "error") error (member (codes "text") (string text) no_members))
 
-abbrev pub meaning_json : PreRelease → List ℕ → Meaning → Data
-meaning_json flag text (meaning.Range m) = matches_json flag text m
-meaning_json flag text (meaning.LeftOut error) = left_out_json text (error_json error)
+abbrev pub meaning_json : PreRelease → List ℕ → List (List ℕ × VersionRange) → Meaning → Data
+meaning_json flag text comparators (meaning.Range m) = matches_json flag text comparators m
+meaning_json flag text comparators (meaning.LeftOut error) = left_out_json text (error_json error)
 
 -- an alternative, without the whitespace around it
 abbrev pub alternative_json : PreRelease → Piece → Data
-alternative_json flag piece = meaning_json flag (trim (string_bytes piece.text)) piece.meaning
+alternative_json flag piece = meaning_json flag (trim (string_bytes piece.text)) (map shown piece.comparators.items) piece.meaning
 
 -- ---- texts
 

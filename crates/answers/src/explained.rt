@@ -1,9 +1,9 @@
 //! What a grammar makes of a range's text, alternative by alternative.
 
-ghost use Rattle.std.specs.Prelude.{◌≡◌, ◌⊎◌, Err, IfErr, IfOk};
+ghost use Rattle.std.specs.Prelude.{◌≡◌, ◌⊎◌, Err, IfErr, IfOk, map};
 ghost use Rattle.semver_base.specs.NormalText.{IsWritableRange};
 ghost use Rattle.semver_req.specs.Alternatives.{IsWritable};
-ghost use Rattle.answers.specs.Explained.{AreItsPieces, IsExplained, IsExplainedPiece, IsMeaningOfRange};
+ghost use Rattle.answers.specs.Explained.{AreFitting, AreItsPieces, IsExplained, IsExplainedPiece, IsMeaningOfRange, shown};
 ghost use Rattle.answers.specs.Asking.{OutOfMemory, fault_of};
 ghost use Rattle.answers.specs.Reading.{IsRangeAt};
 
@@ -12,8 +12,9 @@ use crate::reading::range;
 use semver_base::range::{PreRelease, VersionRange};
 use semver_base::version::Version;
 use semver_req::common::values::Flavour;
+use semver_req::comparators::{ParsedComparator, comparators};
 use semver_req::error_places::pieces::{Alternative, InvalidPiece, Parsed, alternatives};
-use semver_req::range_set_or_tag::{PackageTag, RangeSetOrTag};
+use semver_req::range_set_or_tag::{PackageTag, RangeOrInvalid, RangeSetOrTag};
 use std::alloc::{AllocError, Global};
 
 /// What a grammar makes of a text.
@@ -31,6 +32,17 @@ pub struct Piece {
     /// The alternative as written.
     pub text: String,
     pub meaning: Meaning,
+    /// Those of its comparators in which no number and no bound is too large.
+    pub comparators: Vec<Comparator>,
+}
+
+/// A comparator of an alternative.
+#[derive(Drop)]
+pub struct Comparator {
+    /// The comparator as written.
+    pub text: String,
+    /// The range that it means by itself.
+    pub range: VersionRange,
 }
 
 /// What a grammar makes of an alternative.
@@ -76,22 +88,53 @@ impl Meaning {
     }
 }
 
+// The comparators of an alternative in which no number and no bound is too large.
+fn comparators_of(
+    alloc: Global,
+    flavour: Flavour,
+    alternative: &str,
+) -> Result<Vec<Comparator>, AllocError>
+    ensures { IfOk result (λ all. AreFitting flavour alternative.now (map shown all.items)) }
+{
+    let mut all = Vec::new(alloc);
+    let Some(items) = comparators(alloc, alternative, flavour)? else {
+        return Ok(all);
+    };
+    for item in items {
+        let ParsedComparator { text, parsed } = item;
+        match parsed {
+            RangeOrInvalid::Range(range) => {
+                let text = String::from_str(alloc, text)?;
+                all.push(Comparator { text, range })?;
+            }
+            RangeOrInvalid::Invalid(_rejection) => {}
+        }
+    }
+    Ok(all)
+}
+
 impl Piece {
     // An alternative, with what its range matches.
     fn of(
         alloc: Global,
+        flavour: Flavour,
         pre_release: PreRelease,
         alternative: Alternative<'_>,
     ) -> Result<Piece, AllocError>
         requires { IsWritable alternative.parsed }
-        ensures { IfOk result (IsExplainedPiece pre_release alternative.entry) }
+        ensures { IfOk result (IsExplainedPiece flavour pre_release alternative.entry) }
     {
         let text = String::from_str(alloc, alternative.text)?;
+        let comparators = comparators_of(alloc, flavour, alternative.text)?;
         let meaning = match alternative.parsed {
             Parsed::Range(range) => Meaning::of(alloc, pre_release, range)?,
             Parsed::Invalid(error) => Meaning::LeftOut(error),
         };
-        Ok(Piece { text, meaning })
+        Ok(Piece {
+            text,
+            meaning,
+            comparators,
+        })
     }
 }
 
@@ -107,7 +150,7 @@ fn pieces_of(
 {
     let mut pieces = Vec::new(alloc);
     for alternative in alternatives(alloc, 0, text, flavour)? {
-        pieces.push(Piece::of(alloc, pre_release, alternative)?)?;
+        pieces.push(Piece::of(alloc, flavour, pre_release, alternative)?)?;
     }
     Ok(pieces)
 }

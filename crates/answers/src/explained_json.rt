@@ -5,20 +5,21 @@ ghost use Rattle.std.specs.Option.{option_copied};
 ghost use Rattle.serde_json.specs.Data.{string};
 ghost use Rattle.serde_json.specs.View.{view};
 ghost use Rattle.answers.specs.Asking.{IsAnswer};
-ghost use Rattle.answers.specs.ExplainedJson.{Explains, matches_json, numbers_text, option_list, pre_release_of, pre_releases, ranges_explained};
+ghost use Rattle.answers.specs.Explained.{shown};
+ghost use Rattle.answers.specs.ExplainedJson.{Explains, comparators_json, matches_json, numbers_text, option_list, pre_release_of, pre_releases, pre_releases_json, ranges_explained};
 ghost use Rattle.answers.specs.Filtering.{list_answer};
 
 use crate::asking::{Answer, Problem};
 use crate::errors::error_json;
-use crate::explained::{Explanation, Matches, Meaning, Piece, explain};
+use crate::explained::{Comparator, Explanation, Matches, Meaning, Piece, explain};
 use crate::object::{Object, json_text, text_json};
 use crate::parts::{bound_json, displayed_json};
 use semver_base::range::{PreRelease, RangeBound};
 use semver_base::version::Version;
 use semver_req::common::values::Flavour;
 use semver_req::laws::{
-    tests_have_one_lowest_version, texts_are_rejected_for_one_reason,
-    texts_have_one_list_of_alternatives, texts_have_one_outcome,
+    alternatives_have_one_list_of_comparators, tests_have_one_lowest_version,
+    texts_are_rejected_for_one_reason, texts_have_one_list_of_alternatives, texts_have_one_outcome,
 };
 use serde_json::Value;
 use std::alloc::{AllocError, Global};
@@ -70,32 +71,65 @@ fn push_numbers(
     Ok(())
 }
 
+// The numbers of which pre-releases match, or that all do.
+fn pre_releases_json(
+    alloc: Global,
+    pre_release: PreRelease,
+    matches: &Matches,
+) -> Result<Value, AllocError>
+    ensures { IfOk result (λ json. view json ≡ pre_releases_json pre_release matches.now) }
+{
+    match pre_release {
+        PreRelease::Admitted => text_json(alloc, "all"),
+        PreRelease::Restricted => {
+            let (first, second) = matches.pre_releases();
+            let mut items = Vec::new(alloc);
+            push_numbers(alloc, &mut items, first)?;
+            push_numbers(alloc, &mut items, second)?;
+            Ok(Value::Array(items))
+        }
+    }
+}
+
+// Comparators.
+fn comparators_json(alloc: Global, comparators: &[Comparator]) -> Result<Value, AllocError>
+    ensures { IfOk result (λ json. view json ≡ comparators_json (map shown comparators.now)) }
+{
+    let mut items = Vec::new(alloc);
+    for comparator in comparators {
+        let json = Object::new(alloc)
+            .put("end", bound_json(alloc, &comparator.range.end))
+            .put("start", bound_json(alloc, &comparator.range.start))
+            .put_text("text", Some(comparator.text.as_str()))
+            .into_json();
+        items.push(json?)?;
+    }
+    Ok(Value::Array(items))
+}
+
 // An alternative that is a range.
 fn matches_json(
     alloc: Global,
     pre_release: PreRelease,
     text: &str,
+    comparators: &[Comparator],
     matches: &Matches,
 ) -> Result<Value, AllocError>
-    ensures { IfOk result (λ json. view json ≡ matches_json pre_release text.now matches.now) }
+    ensures { IfOk result (λ json. view json
+        ≡ matches_json pre_release text.now (map shown comparators.now) matches.now) }
 {
-    let pre_releases = if pre_release == PreRelease::Admitted {
-        text_json(alloc, "all")
-    } else {
-        let (first, second) = matches.pre_releases();
-        let mut items = Vec::new(alloc);
-        push_numbers(alloc, &mut items, first)?;
-        push_numbers(alloc, &mut items, second)?;
-        Ok(Value::Array(items))
-    };
     let lowest = match &matches.lowest {
         Some(version) => displayed_json(alloc, version),
         None => Ok(Value::Null),
     };
     Object::new(alloc)
+        .put("comparators", comparators_json(alloc, comparators))
         .put("end", bound_json(alloc, &matches.range.end))
         .put("lowest", lowest)
-        .put("pre-releases", pre_releases)
+        .put(
+            "pre-releases",
+            pre_releases_json(alloc, pre_release, matches),
+        )
         .put("start", bound_json(alloc, &matches.range.start))
         .put_text("text", Some(text))
         .into_json()
@@ -115,7 +149,10 @@ pub fn ranges_explained(
     for piece in pieces {
         let text = piece.text.as_str().trim();
         let alternative = match &piece.meaning {
-            Meaning::Range(matches) => matches_json(alloc, pre_release, text, matches),
+            Meaning::Range(matches) => {
+                let comparators = piece.comparators.as_slice();
+                matches_json(alloc, pre_release, text, comparators, matches)
+            }
             Meaning::LeftOut(error) => Object::new(alloc)
                 .put("error", error_json(alloc, error))
                 .put_text("text", Some(text))
@@ -142,6 +179,7 @@ pub fn explain_as_json(
     texts_have_one_outcome();
     texts_are_rejected_for_one_reason();
     texts_have_one_list_of_alternatives();
+    alternatives_have_one_list_of_comparators();
     tests_have_one_lowest_version();
     match explain(alloc, flavour, pre_release, text)? {
         Explanation::Tag(tag) => Ok(Answer::Tag(tag)),

@@ -21,8 +21,8 @@ of-requires c =
 pub loop-alternative-preserved : goal.loop-alternative-preserved
 loop-alternative-preserved c =
     let l = c.loop-alternative in
-    subst (AreExplained c.args.pre_release (l.yielded ++ c.in-Some.alternative ∷ [])) (sym c.in_ok-push.ensures.items)
-    (explained_more c.args.pre_release l.yielded l.pieces.items c.in-Some.alternative c.in_ok-of.field-0 l.invariant c.in_ok-of.ensures)
+    subst (AreExplained c.args.flavour c.args.pre_release (l.yielded ++ c.in-Some.alternative ∷ [])) (sym c.in_ok-push.ensures.items)
+    (explained_more c.args.flavour c.args.pre_release l.yielded l.pieces.items c.in-Some.alternative c.in_ok-of.field-0 l.invariant c.in_ok-of.ensures)
 
 pub returns : goal.returns
 returns c =

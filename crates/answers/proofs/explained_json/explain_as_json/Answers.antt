@@ -15,7 +15,7 @@ use Rattle.answers.proofs.explained_json.explain_as_json.Goals.{After-tests_have
 only : (c : After-tests_have_one_lowest_version) (outcome : Result (Answer (List ℕ)) Fault) → (outcome ≡ Err OutOfMemory) ⊎ Explains c.args.pre_release c.args.flavour c.args.text.now outcome
     → IsOutcomeOf OutOfMemory (Explains c.args.pre_release c.args.flavour c.args.text.now) outcome
 only c = one_answer OutOfMemory (Explains c.args.pre_release c.args.flavour c.args.text.now)
-    (one_explanation c.texts_have_one_outcome.ensures c.args.flavour c.args.text.now c.args.pre_release c.tests_have_one_lowest_version.ensures c.texts_have_one_list_of_alternatives.ensures c.texts_are_rejected_for_one_reason.ensures)
+    (one_explanation c.texts_have_one_outcome.ensures c.args.flavour c.args.text.now c.args.pre_release c.tests_have_one_lowest_version.ensures c.texts_have_one_list_of_alternatives.ensures c.alternatives_have_one_list_of_comparators.ensures c.texts_are_rejected_for_one_reason.ensures)
 
 pub returns-in_err-tag : goal.returns-in_err-tag
 returns-in_err-tag c =

@@ -15,7 +15,7 @@ loop-piece-preserved c =
     let piece = c.piece-item.result in
     let text : c.trim-text.result.now ≡ trim (string_bytes piece.text) = search rules in
     let is : IfOk c.match-piece.alternative (λ json. view json ≡ alternative_json flag piece) = elim c.match-piece.branch [
-      | in-Range w ↦ rw (w.alternative-is, w.in-Range.is) (rw text at w.matches_json-alternative.ensures)
+      | in-Range w ↦ rw (w.alternative-is, w.in-Range.is) (rw (text, w.as_slice-comparators.ensures.value) at w.matches_json-alternative.ensures)
       | in-LeftOut w ↦ rw (w.alternative-is, w.in-LeftOut.is) (rw text at (w.into_json-alternative.ensures _ (w.put_text.ensures _ (w.put.ensures _ _ w.new.ensures w.error_json.ensures))))
     ] in
     let json : view c.in_ok-alternative.field-0 ≡ alternative_json flag piece = rw c.in_ok-alternative.was at is in
