@@ -1,7 +1,7 @@
 //! The lines of a .gitignore.
 
-use crate::names::matches_name;
-use crate::paths::{Dots, matches_path, names_of};
+use crate::names::{Reader, matches_name};
+use crate::paths::{matches_path, names_of};
 use std::alloc::{AllocError, Global};
 
 /// A line of a .gitignore.
@@ -74,7 +74,7 @@ impl Ignored {
         } else if shape.contains('/') {
             self.matches_below(alloc, shape, path)?
         } else {
-            matches_name(shape, path.rsplit('/').next().unwrap_or(path))
+            matches_name(shape, path.rsplit('/').next().unwrap_or(path), Reader::Git)
         };
         Ok(if is_match {
             Some(bare.len() == pattern.len())
@@ -97,7 +97,7 @@ impl Ignored {
         for name in names_of(alloc, path)?.iter() {
             names.push(*name)?;
         }
-        Ok(matches_path(parts.as_slice(), names.as_slice(), Dots::Matched))
+        Ok(matches_path(parts.as_slice(), names.as_slice(), Reader::Git))
     }
 }
 

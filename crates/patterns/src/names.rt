@@ -1,7 +1,37 @@
-//! Patterns of one name, as git reads them.
+//! Patterns of one name, as git reads them, or npm.
 
-// Whether a byte is in the class with this name; none if there is no such class.
-fn in_class(name: &[u8], byte: u8) -> Option<bool> {
+/// Who reads a pattern.
+#[derive(Clone, Copy, PartialEq, Eq)]
+pub enum Reader {
+    /// It compares bytes, and wildcards match names that begin with a dot.
+    Git,
+    /// It compares characters, and wildcards don't.
+    Npm,
+}
+
+impl Reader {
+    // The first byte of a text or, for npm, its first character, and what follows. The bytes of a character are a number, of which a higher
+    // one is a later character. Four bytes are two characters to JavaScript.
+    fn first(self, text: &[u8]) -> Option<(u32, &[u8])> {
+        let length = match (self, text) {
+            (_, []) => return None,
+            (Reader::Npm, [0xe0..=0xef, ..]) => 3,
+            (Reader::Npm, [0x80..=0xff, ..]) => 2,
+            (_, _) => 1,
+        };
+        let (front, behind) = text.split_at_checked(length)?;
+        let mut first = 0u32;
+        for byte in front {
+            first = first.wrapping_mul(256).wrapping_add(u32::from(*byte));
+        }
+        Some((first, behind))
+    }
+}
+
+// Whether a character is in the class with this name; none if there is no such class.
+fn in_class(name: &[u8], c: u32) -> Option<bool> {
+    // No class has the last byte.
+    let byte = u8::try_from(c).unwrap_or(u8::MAX);
     Some(match name {
         b"alnum" => byte.is_ascii_alphanumeric(),
         b"alpha" => byte.is_ascii_alphabetic(),
@@ -26,30 +56,36 @@ fn class_name(text: &[u8]) -> Option<(&[u8], &[u8])> {
     Some((name, text.get(end.saturating_add(1)..)?))
 }
 
-// What a member of a set, such as `a-z`, `[:alpha:]` or `_`, says of a byte, and the members behind it; none if a class has no such name.
-fn take_member(members: &[u8], byte: u8) -> Option<(bool, &[u8])> {
+// The first character of a text, or the one behind a `\`, and what follows.
+fn unescaped(text: &[u8], reader: Reader) -> Option<(u32, &[u8])> {
+    match text {
+        [b'\\', rest @ ..] if !rest.is_empty() => reader.first(rest),
+        text => reader.first(text),
+    }
+}
+
+// What a member of a set, such as `a-z`, `[:alpha:]` or `_`, says of a character, and the members behind it; none if a class has no such
+// name.
+fn take_member(members: &[u8], c: u32, reader: Reader) -> Option<(bool, &[u8])> {
     if let [b'[', b':', rest @ ..] = members
         && let Some((name, behind)) = class_name(rest)
     {
-        return Some((in_class(name, byte)?, behind));
+        return Some((in_class(name, c)?, behind));
     }
-    let (first, rest) = match members {
-        [b'\\', first, rest @ ..] | [first, rest @ ..] => (*first, rest),
-        [] => return None,
-    };
+    let (first, rest) = unescaped(members, reader)?;
     let (last, behind) = match rest {
-        [b'-', b'\\', last, behind @ ..] => (*last, behind),
-        [b'-', last, behind @ ..] if *last != b']' => (*last, behind),
+        [b'-', b']', ..] | [b'-'] => (first, rest),
+        [b'-', end @ ..] => unescaped(end, reader)?,
         _ => (first, rest),
     };
     // Of `b-a`, too, git takes the first.
-    let has = first == byte || first <= byte && byte <= last;
+    let has = first == c || first <= c && c <= last;
     Some((has, behind))
 }
 
-// Whether a set such as `a-z_]` or `!a]`, in which `]` stands behind the last member, has a byte, and what follows it; none if it doesn't end,
-// or has a class that isn't one.
-fn in_set(set: &[u8], byte: u8) -> Option<(bool, &[u8])> {
+// Whether a set such as `a-z_]` or `!a]`, in which `]` stands behind the last member, has a character, and what follows it; none if it
+// doesn't end, or has a class that isn't one.
+fn in_set(set: &[u8], c: u32, reader: Reader) -> Option<(bool, &[u8])> {
     let (is_without, mut left) = match set {
         [b'!' | b'^', members @ ..] => (true, members),
         members => (false, members),
@@ -62,32 +98,30 @@ fn in_set(set: &[u8], byte: u8) -> Option<(bool, &[u8])> {
         {
             return Some((has != is_without, behind));
         }
-        let (is_member, behind) = take_member(left, byte)?;
+        let (is_member, behind) = take_member(left, c, reader)?;
         has |= is_member;
         left = behind;
     }
     None
 }
 
-// What follows in a pattern, if what it begins with takes this byte: itself, `?`, a set in brackets, or a byte behind `\`.
-fn behind_one(pattern: &[u8], byte: u8) -> Option<&[u8]> {
+// What follows in a pattern, if what it begins with takes this character: itself, `?`, a set in brackets, or a character behind `\`.
+fn behind_one(pattern: &[u8], c: u32, reader: Reader) -> Option<&[u8]> {
     let (own, rest) = match pattern {
         [b'?', rest @ ..] => return Some(rest),
         [b'[', set @ ..] => {
-            return match in_set(set, byte) {
+            return match in_set(set, c, reader) {
                 Some((true, rest)) => Some(rest),
                 _ => None,
             };
         }
-        [b'\\', own, rest @ ..] => (*own, rest),
-        [own, rest @ ..] => (*own, rest),
-        [] => return None,
+        pattern => unescaped(pattern, reader)?,
     };
-    if own == byte { Some(rest) } else { None }
+    if own == c { Some(rest) } else { None }
 }
 
-/// Whether a name matches a pattern, in which `*` stands for any text. As in git, bytes are compared.
-pub fn matches_name(pattern: &str, name: &str) -> bool {
+/// Whether a name matches a pattern, in which `*` stands for any text.
+pub fn matches_name(pattern: &str, name: &str, reader: Reader) -> bool {
     let (mut pattern, mut name) = (pattern.as_bytes(), name.as_bytes());
     // Where the pattern goes on behind the last `*`, and what it could have taken of the name.
     let mut again = None;
@@ -97,10 +131,10 @@ pub fn matches_name(pattern: &str, name: &str) -> bool {
             again = Some((behind, name));
             continue;
         }
-        let taken = match name {
-            [] if pattern.is_empty() => return true,
-            [] => None,
-            [byte, rest @ ..] => match behind_one(pattern, *byte) {
+        let taken = match reader.first(name) {
+            None if pattern.is_empty() => return true,
+            None => None,
+            Some((c, rest)) => match behind_one(pattern, c, reader) {
                 Some(behind) => Some((behind, rest)),
                 None => None,
             },
@@ -110,14 +144,15 @@ pub fn matches_name(pattern: &str, name: &str) -> bool {
             name = rest;
             continue;
         }
-        match again {
-            Some((behind, [_, rest @ ..])) => {
-                pattern = behind;
-                name = rest;
-                again = Some((behind, rest));
-            }
-            _ => return false,
-        }
+        let Some((behind, left)) = again else {
+            return false;
+        };
+        let Some((_, rest)) = reader.first(left) else {
+            return false;
+        };
+        pattern = behind;
+        name = rest;
+        again = Some((behind, rest));
     }
     false
 }

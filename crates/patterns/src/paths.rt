@@ -1,20 +1,16 @@
 //! Patterns of paths, name by name.
 
-use crate::names::matches_name;
+use crate::names::{Reader, matches_name};
 use std::alloc::{AllocError, Global};
 
-/// Whether wildcards match names that begin with a dot.
-#[derive(Clone, Copy, PartialEq, Eq)]
-pub enum Dots {
-    Matched,
-    Hidden,
+// Whether a name is hidden from a part of a pattern.
+fn is_hidden(part: &str, name: &str, reader: Reader) -> bool {
+    reader == Reader::Npm && name.starts_with('.') && !part.starts_with('.')
 }
 
-impl Dots {
-    // Whether a name is hidden from a part of a pattern.
-    fn hide(self, part: &str, name: &str) -> bool {
-        self == Dots::Hidden && name.starts_with('.') && !part.starts_with('.')
-    }
+// Whether a name matches a part of a pattern.
+fn takes(part: &str, name: &str, reader: Reader) -> bool {
+    !is_hidden(part, name, reader) && matches_name(part, name, reader)
 }
 
 /// The names of a path.
@@ -29,7 +25,7 @@ pub fn names_of<'p>(alloc: Global, path: &'p str) -> Result<Vec<&'p str>, AllocE
 }
 
 /// Whether the names of a path match a pattern, in which `**` stands for any number of names.
-pub fn matches_path(pattern: &[&str], names: &[&str], dots: Dots) -> bool {
+pub fn matches_path(pattern: &[&str], names: &[&str], reader: Reader) -> bool {
     let (mut at, mut taken) = (0usize, 0usize);
     // Where the pattern goes on behind the last `**`, and the first name that it could take there.
     let mut again = None;
@@ -40,13 +36,15 @@ pub fn matches_path(pattern: &[&str], names: &[&str], dots: Dots) -> bool {
                 at = at.saturating_add(1);
                 again = Some((at, taken));
             }
-            (Some(part), Some(name)) if !dots.hide(part, name) && matches_name(part, name) => {
+            (Some(part), Some(name)) if takes(part, name, reader) => {
                 at = at.saturating_add(1);
                 taken = taken.saturating_add(1);
             }
             (_, _) => match again {
                 Some((behind, first))
-                    if names.get(first).is_some_and(|name| !dots.hide("**", name)) => {
+                    if names
+                        .get(first)
+                        .is_some_and(|name| !is_hidden("**", name, reader)) => {
                     at = behind;
                     taken = first.saturating_add(1);
                     again = Some((at, taken));
@@ -56,4 +54,20 @@ pub fn matches_path(pattern: &[&str], names: &[&str], dots: Dots) -> bool {
         }
     }
     false
+}
+
+/// Whether a pattern may match something in the folder to which these names lead. npm goes through a link only where no `**` takes it.
+pub fn leads_on(pattern: &[&str], names: &[&str], is_link: bool) -> bool {
+    for (place, name) in names.iter().enumerate() {
+        match pattern.get(place) {
+            Some(part) if *part == "**" => {
+                let hidden = names.get(place..).unwrap_or(&[]);
+                let is_hidden = hidden.iter().any(|name| name.starts_with('.'));
+                return !is_link && (!is_hidden || pattern.iter().any(|it| it.starts_with('.')));
+            }
+            Some(part) if takes(part, name, Reader::Npm) => (),
+            _ => return false,
+        }
+    }
+    pattern.len() > names.len()
 }

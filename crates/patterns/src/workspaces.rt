@@ -1,7 +1,8 @@
 //! The patterns of the folders of workspaces, as npm reads them.
 
 use crate::braces::expanded;
-use crate::paths::{Dots, matches_path, names_of};
+use crate::names::Reader;
+use crate::paths::{leads_on, matches_path, names_of};
 use std::alloc::{AllocError, Global};
 
 /// A pattern of folders.
@@ -40,7 +41,18 @@ impl Workspace {
     fn matches(&self, alloc: Global, names: &[&str]) -> Result<bool, AllocError> {
         for pattern in self.patterns.iter() {
             let parts = names_of(alloc, pattern.as_str())?;
-            if matches_path(parts.as_slice(), names, Dots::Hidden) {
+            if matches_path(parts.as_slice(), names, Reader::Npm) {
+                return Ok(true);
+            }
+        }
+        Ok(false)
+    }
+
+    // Whether folders in the one to which the names lead may match.
+    fn leads_on(&self, alloc: Global, names: &[&str], is_link: bool) -> Result<bool, AllocError> {
+        for pattern in self.patterns.iter() {
+            let parts = names_of(alloc, pattern.as_str())?;
+            if leads_on(parts.as_slice(), names, is_link) {
                 return Ok(true);
             }
         }
@@ -55,7 +67,7 @@ impl Workspace {
             if parts.last() == Some(&"**") {
                 parts.push("*")?;
             }
-            if matches_path(parts.as_slice(), names.as_slice(), Dots::Hidden) {
+            if matches_path(parts.as_slice(), names.as_slice(), Reader::Npm) {
                 return Ok(true);
             }
         }
@@ -98,4 +110,34 @@ pub fn is_workspace(
         }
     }
     Ok(is_in && !is_out)
+}
+
+/// How far a folder leads to workspaces.
+#[derive(Clone, Copy, PartialEq, Eq)]
+pub enum Way {
+    Nowhere,
+    /// It may be one.
+    Here,
+    /// Folders in it may be some, too.
+    On,
+}
+
+/// How far a folder leads to workspaces, to which perhaps a link leads.
+pub fn way_to(
+    alloc: Global,
+    workspaces: &[Workspace],
+    folder: &str,
+    is_link: bool,
+) -> Result<Way, AllocError> {
+    let names = names_of(alloc, folder)?;
+    let mut way = Way::Nowhere;
+    for workspace in workspaces.iter().filter(|it| !it.is_without) {
+        if workspace.leads_on(alloc, names.as_slice(), is_link)? {
+            return Ok(Way::On);
+        }
+        if workspace.matches(alloc, names.as_slice())? {
+            way = Way::Here;
+        }
+    }
+    Ok(way)
 }
