@@ -76,6 +76,8 @@ fn misplaced(
 #[derive(Drop)]
 struct Open {
     is_array: bool,
+    /// How many items or keys stand before the next one.
+    items: usize,
     /// The keys so far, in an object on the way to ranges.
     keys: Option<HashSet<String>>,
 }
@@ -219,14 +221,26 @@ impl Collector {
         }
     }
 
-    // Whether the next value is an item of a list in place of a section of dependencies.
-    fn is_listed(&self) -> bool {
+    // The section of dependencies in whose place a list stands, if the next value is an item of it.
+    fn listed(&self) -> Option<&'static str> {
         let is_item = self.format == Format::Package && self.path.len() == 1 && self.is_in_array();
-        is_item
-            && matches!(
-                self.first_key(),
-                "dependencies" | "devDependencies" | "optionalDependencies" | "peerDependencies"
-            )
+        match self.first_key() {
+            "dependencies" if is_item => Some("dependencies"),
+            "devDependencies" if is_item => Some("devDependencies"),
+            "optionalDependencies" if is_item => Some("optionalDependencies"),
+            "peerDependencies" if is_item => Some("peerDependencies"),
+            _ => None,
+        }
+    }
+
+    // The key of the next value. npm names an item of a list in place of dependencies by its index.
+    fn name(&self) -> Result<String, AllocError> {
+        let items = self.open.last().map_or(0, |open| open.items);
+        match &self.key {
+            Some(key) => String::from_str(self.alloc, key.as_str()),
+            None if self.listed().is_some() => format!(in self.alloc; "{items}"),
+            None => Ok(String::new(self.alloc)),
+        }
     }
 
     // What is said of a value of another shape where the next value is, if that is a setting, or a section in which npm finds names.
@@ -267,10 +281,7 @@ impl Collector {
         kind: Kind,
         section: &'static str,
     ) -> Result<(), AllocError> {
-        let name = match &self.key {
-            Some(key) => String::from_str(self.alloc, key.as_str())?,
-            None => String::new(self.alloc),
-        };
+        let name = self.name()?;
         let object = match self.path.last() {
             Some(object) => String::from_str(self.alloc, object.as_str())?,
             None => String::new(self.alloc),
@@ -304,7 +315,10 @@ impl Collector {
         shape: Shape,
         index: usize,
     ) -> Result<Option<(Kind, &'static str)>, AllocError> {
-        if shape != Shape::Text && self.is_listed() {
+        if let Some(section) = self.listed() {
+            if shape == Shape::Text {
+                return Ok(Some((Kind::Dependency, section)));
+            }
             let message = "npm refuses it: expected a string, such as \"^1.2\"";
             self.add_kind(index, Kind::Mistake(message), "")?;
             return Ok(None);
@@ -352,7 +366,12 @@ impl Collector {
             Some(kind) => kind,
             None => return Ok(None),
         };
-        self.add_kind(index, kind, "")?;
+        let section = if self.first_key() == "devEngines" {
+            "devEngines"
+        } else {
+            ""
+        };
+        self.add_kind(index, kind, section)?;
         Ok(None)
     }
 
@@ -376,7 +395,14 @@ impl Collector {
         if is_array {
             self.arrays = self.arrays.saturating_add(1);
         }
-        Ok(self.open.push(Open { is_array, keys })?)
+        let items = 0usize;
+        Ok(
+            self.open.push(Open {
+                is_array,
+                items,
+                keys,
+            })?,
+        )
     }
 
     /// Closes the last object or array.
@@ -392,6 +418,9 @@ impl Collector {
     /// Goes on to the next item or key.
     pub fn end_item(&mut self) {
         self.key = None;
+        if let Some(open) = self.open.last_mut() {
+            open.items = open.items.saturating_add(1);
+        }
     }
 
     /// Takes a key, which stands between these indexes.

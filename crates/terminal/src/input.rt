@@ -26,6 +26,9 @@ pub trait Take {
         text: &str,
         version: Version,
     ) -> Result<(), Stop>;
+
+    /// Whether no further version changes the answer.
+    fn is_done(&self) -> bool;
 }
 
 // Takes a text if it is a version, or a line of git with the name of a tag that is one; reports an invalid one, unless such are
@@ -230,13 +233,15 @@ fn take_lines<I: BufRead, O: Write, E: Write, T: Take>(
         }
         is_front &= line.as_slice().trim_ascii().is_empty();
         status = status.worse(answer_line(console, taker, number, line.as_slice())?);
+        if taker.is_done() {
+            break;
+        }
     }
     Ok(status)
 }
 
-/// Takes each of the arguments, or without any and for `-` each line of standard input, or all of that if it begins with a
-/// JSON array or object. The status is that of invalid arguments if
-/// one isn't a version.
+/// Takes each of the arguments, or without any and for `-` each line of standard input, until no further one counts, or all of it if it
+/// begins with a JSON array or object. The status is that of invalid arguments if one isn't a version.
 pub fn take_all<R: Input, O: Write, E: Write, T: Take>(
     rt: &R,
     console: &mut Console<O, E>,
