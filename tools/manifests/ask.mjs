@@ -41,8 +41,10 @@ function resolve(manifest) {
   const root = new Node({ path: '/tmp', pkg: manifest, loadOverrides: true })
   root.assertRootOverrides()
   const names = new Set(SECTIONS.flatMap((section) => Object.keys(manifest[section] ?? {})))
-  for (const { keySpec, value } of root.overrides ? rulesOf(root.overrides) : []) {
+  for (const { name, keySpec, value, parent } of root.overrides ? rulesOf(root.overrides) : []) {
     if (keySpec !== '*') semver.intersects('*', keySpec)
+    // npm compares the key also with what it asks for in place of a package.
+    if (!value.startsWith('$')) parent.getEdgeRule({ name, spec: value })
     if (value.startsWith('$') && !names.has(value.slice(1))) throw new Error(`Unable to resolve reference ${value}`)
   }
   if (manifest.workspaces !== undefined) virtual({ lockfile: { packages: { '': manifest } } })

@@ -4,6 +4,7 @@ use crate::apart::first_apart;
 use crate::catalogs::{Catalogs, resolved, shelve};
 use crate::findings::Position;
 use crate::fixing::range_of_specifier;
+use crate::known::is_own;
 use crate::walking::{Group, Manifests, find, read_file};
 use answers::asking::Problem;
 use answers::object::Object;
@@ -111,13 +112,14 @@ impl Package {
 
 // ---- what entries ask for
 
-// A package that is asked for by a range of a grammar, or a reference to a catalog that has none.
+// A package that is asked for by a range of a grammar, or by something that is left out.
 #[derive(Drop)]
 struct Request {
     name: String,
     range: String,
     flavour: Flavour,
-    is_missing: bool,
+    /// Why it is left out, if it is.
+    left_out: Option<&'static str>,
 }
 
 // A manifest, and what stands in it.
@@ -146,14 +148,15 @@ fn of_specifier(alloc: Global, text: &str) -> Result<Option<Request>, Stop> {
         name,
         range: String::from_str(alloc, range)?,
         flavour,
-        is_missing: false,
+        left_out: None,
     }))
 }
 
 // What the text of a dependency with this name asks a registry for, or another package of the workspace.
 fn of_dependency(alloc: Global, name: &str, text: &str) -> Result<Option<Request>, AllocError> {
-    let range = match source_of(text) {
-        Source::Registry(range) if !text.contains("#semver:") => range,
+    let (range, left_out) = match source_of(text) {
+        _ if is_own(text) => (text, Some("the workspace's own version")),
+        Source::Registry(range) if !text.contains("#semver:") => (range, None),
         _ => return Ok(None),
     };
     let name = renamed(text).unwrap_or(name);
@@ -166,7 +169,7 @@ fn of_dependency(alloc: Global, name: &str, text: &str) -> Result<Option<Request
         name: format!(in alloc; "{kind}{name}")?,
         range: String::from_str(alloc, range)?,
         flavour: Flavour::Npm,
-        is_missing: false,
+        left_out,
     }))
 }
 
@@ -183,7 +186,7 @@ fn asked_by(alloc: Global, catalogs: &Catalogs, entry: &Entry) -> Result<Option<
                 name: String::from_str(alloc, entry.name.as_str())?,
                 range: String::from_str(alloc, entry.text.as_str())?,
                 flavour: Flavour::Npm,
-                is_missing: true,
+                left_out: Some("the catalog has no entry for it"),
             })),
         },
         (_, _) => Ok(None),
@@ -209,8 +212,8 @@ fn read(
     alloc: Global,
     asked: &Request,
 ) -> Result<(Option<VersionReq>, Option<&'static str>), AllocError> {
-    if asked.is_missing {
-        return Ok((None, Some("the catalog has no entry for it")));
+    if asked.left_out.is_some() {
+        return Ok((None, asked.left_out));
     }
     let text = text_read(alloc, asked)?;
     match range(alloc, asked.flavour, 0, text.as_str()) {

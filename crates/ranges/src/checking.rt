@@ -7,7 +7,7 @@ use crate::findings::{Cause, Finding, Format, Position, Report};
 use crate::fixing::{
     Rewritten, apply, is_rewritten, is_tag, pieces_of, print_diffs, rewrite, set_above, write_all,
 };
-use crate::known::{Known, Manager, is_of_npm, known_of, linked_by};
+use crate::known::{Known, Manager, is_of_npm, is_own, known_of, linked_by};
 use crate::overriding::Overrides;
 use crate::rules::{Level, Levels, Rule};
 use crate::walking::{Group, Manifests, add_roots, find, path_in_repository, read_file};
@@ -393,7 +393,7 @@ fn check_dependency<O: Write, E: Write>(
     entry: &Entry,
 ) -> Result<(), Stop> {
     let text = entry.text.as_str();
-    if refers(entry) {
+    if refers(entry) || is_own(text) {
         return Ok(());
     }
     match source_of(text) {
@@ -597,6 +597,17 @@ fn check_conflict<'e, O: Write, E: Write>(
         }
         let message = format!(in console.alloc;
             "npm refuses it: Override for {name} conflicts with direct dependency, since a workspace has this name"
+        )?;
+        let finding = Finding::new(Cause::Refused, message.as_str());
+        return report.add(console, entry, finding);
+    }
+    let asked = match overrides.asked(name) {
+        Some(direct) => direct.text.as_str(),
+        None => "",
+    };
+    if incomparable(console.alloc, entry.text.as_str(), asked)?.is_some() {
+        let message = format!(in console.alloc;
+            "npm refuses it: Invalid comparator in {name}@{asked}, a direct dependency"
         )?;
         let finding = Finding::new(Cause::Refused, message.as_str());
         return report.add(console, entry, finding);
@@ -819,6 +830,19 @@ fn check_relations<'e, O: Write, E: Write>(
     Ok(())
 }
 
+// Checks the name of a workspace.
+fn check_name<O: Write, E: Write>(
+    console: &mut Console<O, E>,
+    report: &mut Report<'_>,
+    entry: &Entry,
+    known: &Known,
+) -> Result<(), Stop> {
+    match known.refusal_of_name(entry.text.as_str()) {
+        Some(message) => report.add(console, entry, Finding::new(Cause::Refused, message)),
+        None => Ok(()),
+    }
+}
+
 // Checks what a workspace has in place of its name, and isn't a string.
 fn check_odd_name<O: Write, E: Write>(
     console: &mut Console<O, E>,
@@ -833,6 +857,79 @@ fn check_odd_name<O: Write, E: Write>(
     }
 }
 
+// The range that a text asks for, if npm compares it with the range in this key of overrides, and can't.
+fn incomparable<'t>(alloc: Global, key: &str, text: &'t str) -> Result<Option<&'t str>, Stop> {
+    let Source::Registry(range) = source_of(text) else {
+        return Ok(None);
+    };
+    let is_compared = !matches!(name_and_range(key).1, "" | "*");
+    let is_range = npm::read_range(range).reading == Reading::Range;
+    if !is_compared || !is_range || is_range_of_key(alloc, range, true)? {
+        return Ok(None);
+    }
+    Ok(Some(range))
+}
+
+// Reports that npm can't compare a text of overrides with its key, as it does for each package that the key counts for.
+fn check_compared<O: Write, E: Write>(
+    console: &mut Console<O, E>,
+    report: &mut Report<'_>,
+    entry: &Entry,
+) -> Result<bool, Stop> {
+    let (name, text) = (entry.name.as_str(), entry.text.as_str());
+    let key = if name == "." {
+        entry.object.as_str()
+    } else {
+        name
+    };
+    let Some(range) = incomparable(console.alloc, key, text)? else {
+        return Ok(false);
+    };
+    let message = "npm refuses it: Invalid comparator";
+    let errors = errors_at_end(console.alloc, Flavour::Npm, text, range)?;
+    report.add_with(console, entry, Cause::Refused, message, &errors)?;
+    Ok(true)
+}
+
+// Checks what a manifest asks for, or a text of overrides.
+fn check_asked<'e, O: Write, E: Write>(
+    console: &mut Console<O, E>,
+    report: &mut Report<'_>,
+    names: &mut Names<'e>,
+    file: Checked<'_>,
+    entry: &'e Entry,
+) -> Result<(), Stop> {
+    // Other package managers take `ssh:` from any host.
+    let is_of_other = names.is_of_npm == Some(false) || file.known.is_of_pnpm();
+    let is_taken = is_of_other && npm::is_refused_ssh(entry.text.as_str());
+    let is_of_npm = entry.section == "overrides"
+        && file.is_of_npm()
+        && names.is_of_npm != Some(false);
+    let is_refused = is_of_npm && !refers(entry) && check_compared(console, report, entry)?;
+    if !is_taken && !is_refused {
+        check_dependency(console, report, entry)?;
+    }
+    check_relations(console, report, names, file, entry)
+}
+
+// Checks a key of overrides.
+fn check_override<'e, O: Write, E: Write>(
+    console: &mut Console<O, E>,
+    report: &mut Report<'_>,
+    names: &mut Names<'e>,
+    file: Checked<'_>,
+    entry: &'e Entry,
+    separator: &str,
+) -> Result<(), Stop> {
+    check_key(console, report, entry, separator)?;
+    // Bun takes another range, too; pnpm and yarn don't read npm's overrides.
+    let is_asked = file.is_root && names.is_of_npm != Some(false);
+    if is_asked && separator.is_empty() && entry.depth == 1 {
+        check_conflict(console, report, entry, &mut names.overrides, file.known)?;
+    }
+    Ok(())
+}
+
 // Checks an entry.
 fn check_entry<'e, O: Write, E: Write>(
     console: &mut Console<O, E>,
@@ -845,15 +942,7 @@ fn check_entry<'e, O: Write, E: Write>(
     match entry.kind {
         // npm takes no overrides from a workspace.
         Kind::Dependency | Kind::Override(_) if is_ignored => Ok(()),
-        Kind::Dependency => {
-            // Other package managers take `ssh:` from any host.
-            let is_of_other = names.is_of_npm == Some(false) || file.known.is_of_pnpm();
-            let is_taken = is_of_other && npm::is_refused_ssh(entry.text.as_str());
-            if !is_taken {
-                check_dependency(console, report, entry)?;
-            }
-            check_relations(console, report, names, file, entry)
-        }
+        Kind::Dependency => check_asked(console, report, names, file, entry),
         Kind::Range => check_dependency(console, report, entry),
         Kind::Engine => check_range(console, report, entry, Flavour::Npm, entry.text.as_str()),
         Kind::Specifier => check_specifier(console, report, entry),
@@ -888,22 +977,13 @@ fn check_entry<'e, O: Write, E: Write>(
             )
         }
         Kind::Override(separator) => {
-            check_key(console, report, entry, separator)?;
-            // Bun takes another range, too; pnpm and yarn don't read npm's overrides.
-            let is_asked = file.is_root && names.is_of_npm != Some(false);
-            if is_asked && separator.is_empty() && entry.depth == 1 {
-                check_conflict(console, report, entry, &mut names.overrides, file.known)?;
-            }
-            Ok(())
+            check_override(console, report, names, file, entry, separator)
         }
         Kind::Workspaces if !names.has_packages && file.is_root => {
             let message = "npm refuses it: workspaces config expects an Array";
             report.add(console, entry, Finding::new(Cause::Refused, message))
         }
-        Kind::Name if !file.is_own => match file.known.refusal_of_name(entry.text.as_str()) {
-            Some(message) => report.add(console, entry, Finding::new(Cause::Refused, message)),
-            None => Ok(()),
-        },
+        Kind::Name if !file.is_own => check_name(console, report, entry, file.known),
         Kind::OddName if !file.is_own => check_odd_name(console, report, entry, file.known),
         Kind::Workspace
         | Kind::Workspaces

@@ -327,9 +327,21 @@ fn has_text(entry: &Entry) -> bool {
     )
 }
 
+// The name of an entry; that of an engine isn't one of a package, and has its section in front.
+fn name_of(alloc: Global, entry: &Entry) -> Result<String, AllocError> {
+    let (object, name) = (entry.object.as_str(), entry.name.as_str());
+    match (entry.section, object) {
+        (_, "engines") if entry.depth == 1 => format!(in alloc; "engines.{name}"),
+        ("devEngines", "[]") => format!(in alloc; "devEngines.{name}"),
+        ("devEngines", _) => format!(in alloc; "devEngines.{object}.{name}"),
+        (_, _) => String::from_str(alloc, name),
+    }
+}
+
 // The name of an entry and its text, where there are such, the message, and the rule.
 fn line(alloc: Global, entry: &Entry, finding: Finding<'_>) -> Result<String, AllocError> {
-    let (name, text) = (Shown(entry.name.as_str()), Quoted(entry.text.as_str()));
+    let name = name_of(alloc, entry)?;
+    let (name, text) = (Shown(name.as_str()), Quoted(entry.text.as_str()));
     let (message, ending) = (Shown(finding.message), finding.ending(alloc)?);
     match (entry.name.is_empty(), has_text(entry)) {
         (true, false) => format!(in alloc; "{message}{ending}"),
@@ -385,13 +397,14 @@ impl Report<'_> {
             Cause::Rule(rule) => Some(rule.name()),
             Cause::Refused | Cause::Fine => None,
         };
+        let name = name_of(alloc, entry)?;
         let mut json = Object::new(alloc)
             .put("column", Ok(Value::from(self.position.column)))
             .put_text("file", Some(self.file))
             .put_text("level", Some(weight.name()))
             .put("line", Ok(Value::from(self.position.line)))
             .put_text(key, Some(finding.message))
-            .put_text("name", Some(entry.name.as_str()))
+            .put_text("name", Some(name.as_str()))
             .put_text("rule", rule)
             .put_text("text", text);
         if let Some(errors) = finding.errors {

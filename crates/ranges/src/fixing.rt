@@ -291,7 +291,8 @@ fn better(
     let Some(kept) = shortened(alloc, levels, flavour, text)? else {
         return Ok(None);
     };
-    if levels.of(Rule::NotCanonical) == Level::Off {
+    // npm lets pre-releases match an engine, and then another form may match others.
+    if levels.of(Rule::NotCanonical) == Level::Off || kind == Kind::Engine {
         let is_new = has_commas || is_corrected || kept.len() < range.trim().len();
         return Ok(if is_new { Some(kept) } else { None });
     }

@@ -179,8 +179,11 @@ impl Known {
 
     /// Why npm refuses a value that isn't a string in place of the name of a workspace, if it does. This is the file from that value on.
     pub fn refusal_of_odd_name(&self, value: &str) -> Option<&'static str> {
-        // Those are no name to npm, which then takes the folder's.
-        let is_none = value.starts_with("false") || value.starts_with('0');
+        // `false` and 0 are no name to npm, which then takes the folder's.
+        let behind = value.trim_start_matches(['-', '0', '.'].as_slice());
+        let is_zero = behind.len() < value.len()
+            && !behind.starts_with(|c: char| c.is_ascii_digit());
+        let is_none = value.starts_with("false") || is_zero;
         if self.workspace != Workspace::Package || is_none {
             None
         } else {
@@ -289,6 +292,18 @@ impl Known {
         let message = format!(in alloc; "{who}: its version in the workspace is {version}")?;
         Ok(Some(message))
     }
+}
+
+/// Whether a text asks for a package of the workspace, whatever version it has there.
+pub fn is_own(text: &str) -> bool {
+    let Some(asked) = behind_protocol(text, "workspace:") else {
+        return false;
+    };
+    let range = match renamed(text) {
+        Some(name) => asked.get(name.len().saturating_add(1)..).unwrap_or(""),
+        None => asked,
+    };
+    matches!(range, "^" | "~" | "*") || range.starts_with(['.', '/'].as_slice())
 }
 
 /// The entries of a file; none if it can't be read.
@@ -400,7 +415,8 @@ pub fn linked_by<R: Runtime + AllocGlobal, O: Write, E: Write>(
     if !entries.iter().any(|entry| is_foreign(entry.text.as_str())) {
         return Ok(names);
     }
-    for member in members_of(rt, console, root)? {
+    let members = members_of(rt, console, root)?;
+    for member in members.manifests {
         let entries = entries_of(rt, member.as_str())?;
         if let Some(name) = text_of(entries.as_slice(), Kind::Name) {
             let _ = names.insert(String::from_str(alloc, name)?)?;
@@ -420,11 +436,11 @@ pub fn known_of<R: Files + AllocGlobal>(rt: &R, group: &Group) -> Result<Known, 
     }
     known.is_whole = group.is_whole;
     for path in group.above.iter() {
-        known.learn(
-            alloc,
-            path.as_str(),
-            entries_of(rt, path.as_str())?.as_slice(),
-        )?;
+        let entries = entries_of(rt, path.as_str())?;
+        known.learn(alloc, path.as_str(), entries.as_slice())?;
+        if let Some(name) = text_of(entries.as_slice(), Kind::Name) {
+            known.learn_name(alloc, name, true)?;
+        }
     }
     for (place, path) in group.paths.iter().chain(group.others.iter()).enumerate() {
         let entries = entries_of(rt, path.as_str())?;

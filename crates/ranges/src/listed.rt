@@ -37,6 +37,8 @@ struct Filtering<'a> {
     ranges: &'a [VersionReq],
     pre_release: PreRelease,
     is_inverted: bool,
+    /// Whether only the status tells if a version is printed.
+    is_quiet: bool,
     has_printed: bool,
 }
 
@@ -52,6 +54,10 @@ impl Take for Filtering<'_> {
             print_text(console, text)?;
         }
         Ok(())
+    }
+
+    fn is_done(&self) -> bool {
+        self.is_quiet && self.has_printed
     }
 }
 
@@ -101,6 +107,10 @@ impl Take for Listed<'_> {
         }
         Ok(())
     }
+
+    fn is_done(&self) -> bool {
+        false
+    }
 }
 
 // Parses RANGE, and then the ranges of --range; with an invalid one or a tag the command ends.
@@ -134,6 +144,7 @@ pub fn filter<R: Input, O: Write, E: Write>(
         ranges: ranges.as_slice(),
         pre_release: console.options.pre_release,
         is_inverted: given.has("invert-match"),
+        is_quiet: console.options.quiet,
         has_printed: false,
     };
     let status = take_all(rt, console, given.matches.get_strs("VERSION"), &mut filter)?;
@@ -277,6 +288,10 @@ impl Take for Keys {
         let (text, end) = (text.trim(), console.options.line_end());
         write!(console.out, "{key}\t{kind}\t{text}{end}")?;
         Ok(())
+    }
+
+    fn is_done(&self) -> bool {
+        false
     }
 }
 

@@ -124,6 +124,14 @@ impl<'e> Overrides<'e> {
         }
     }
 
+    /// What the manifest itself asks for by this name, if no key before counts for it.
+    pub fn asked(&self, name: &str) -> Option<&'e Entry> {
+        match self.direct.get(name) {
+            Some(direct) if !self.taken.contains(name) => Some(*direct),
+            _ => None,
+        }
+    }
+
     /// What the manifest itself asks for, if this key asks for something else in its place, which npm refuses.
     pub fn conflict(
         &mut self,
@@ -132,9 +140,8 @@ impl<'e> Overrides<'e> {
     ) -> Result<Option<&'e Entry>, AllocError> {
         let key = entry.text.as_str();
         let (name, range) = name_and_range(key);
-        let direct = match self.direct.get(name) {
-            Some(direct) if !self.taken.contains(name) => *direct,
-            _ => return Ok(None),
+        let Some(direct) = self.asked(name) else {
+            return Ok(None);
         };
         let asked = direct.text.as_str();
         if !counts(alloc, range, asked)? {

@@ -150,7 +150,7 @@ pub const RULES: [About; COUNT] = [
         rule: Rule::OddSection,
         name: "odd-section",
         level: Level::Warning,
-        finds: "A section of package.json isn't an object, or an override isn't a string. npm accepts both.",
+        finds: "A section of package.json isn't an object, or an override is neither a string nor an object. npm usually passes over either.",
         help: "Write an object of names and ranges, as in `{\"react\": \"^18\"}`.",
     },
     About {

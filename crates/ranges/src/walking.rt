@@ -1,17 +1,18 @@
 //! The manifests of folders and of workspaces, and the files of arguments.
 
+use crate::findings::Position;
 use answers::asking::Problem;
 use answers::reading;
 use patterns::ignored::{Ignored, is_ignored};
 use patterns::paths::names_of;
-use patterns::workspaces::{Workspace, is_workspace, undo};
+use patterns::workspaces::{Way, Workspace, is_workspace, undo, way_to};
 use semver_req::common::values::Flavour;
 use std::alloc::{AllocError, Global};
 use std::collections::{BTreeMap, HashMap, HashSet};
 use std::env::VarError;
 use std::io::{BufRead, ErrorKind, Read, Write};
 use std::rt::{Files, Runtime};
-use std::{env, fs, io};
+use std::{env, fs, io, str};
 use terminal::console::{Console, Status, Stop};
 use terminal::manifest::entries;
 use terminal::sections::Kind;
@@ -31,6 +32,8 @@ const NAMES: [&str; 5] = [
 struct Folder {
     manifests: Vec<String>,
     folders: Vec<String>,
+    /// Links to something else than a manifest.
+    links: Vec<String>,
     /// Whether a name in it isn't valid UTF-8.
     has_other: bool,
 }
@@ -328,14 +331,17 @@ struct Left {
     /// How many lines, the first, are of outer repositories, and don't count.
     outer: usize,
     excluded: Vec<Ignored>,
+    /// Whether what git ignores counts.
+    is_of_git: bool,
 }
 
 impl Left {
-    fn new(ignored: Vec<Ignored>, excluded: Vec<Ignored>) -> Left {
+    fn new(ignored: Vec<Ignored>, excluded: Vec<Ignored>, is_of_git: bool) -> Left {
         Left {
             ignored,
             outer: 0,
             excluded,
+            is_of_git,
         }
     }
 
@@ -378,11 +384,14 @@ fn excluded(alloc: Global, patterns: &[&str]) -> Result<Vec<Ignored>, AllocError
 // Lists a folder, by the order of names, but for what is left out, also by its own .gitignore.
 fn list<R: Runtime + AllocGlobal>(rt: &R, folder: &str, left: &mut Left) -> io::Result<Folder> {
     let alloc = rt.alloc();
-    let file = joined(alloc, folder, ".gitignore")?;
-    read_ignored(rt, file.as_str(), folder, "", &mut left.ignored)?;
+    if left.is_of_git {
+        let file = joined(alloc, folder, ".gitignore")?;
+        read_ignored(rt, file.as_str(), folder, "", &mut left.ignored)?;
+    }
     let mut held = Folder {
         manifests: Vec::new(alloc),
         folders: Vec::new(alloc),
+        links: Vec::new(alloc),
         has_other: false,
     };
     let path = if folder.is_empty() { "." } else { folder };
@@ -399,21 +408,25 @@ fn list<R: Runtime + AllocGlobal>(rt: &R, folder: &str, left: &mut Left) -> io::
         let kind = entry.file_type()?;
         let is_folder = kind.is_dir();
         let is_manifest = NAMES.contains(&name) && (kind.is_file() || kind.is_symlink());
-        if matches!(name, "node_modules" | ".git") || !is_folder && !is_manifest {
+        let is_other = !is_folder && !is_manifest && !kind.is_symlink();
+        if matches!(name, "node_modules" | ".git") || is_other {
             continue;
         }
         let path = joined(alloc, folder, name)?;
-        if left.has(alloc, path.as_str(), is_folder)? {
+        if left.has(alloc, path.as_str(), !is_manifest)? {
             continue;
         }
-        if is_folder {
+        if is_manifest {
+            held.manifests.push(path)?;
+        } else if is_folder {
             held.folders.push(path)?;
         } else {
-            held.manifests.push(path)?;
+            held.links.push(path)?;
         }
     }
     held.manifests.sort()?;
     held.folders.sort()?;
+    held.links.sort()?;
     Ok(held)
 }
 
@@ -433,6 +446,15 @@ fn complain<O: Write, E: Write>(
 
 fn shown_folder(folder: &str) -> &str {
     if folder.is_empty() { "." } else { folder }
+}
+
+// Whether a path leads to a folder.
+fn is_folder<R: Files + AllocGlobal>(rt: &R, path: &str) -> Result<bool, AllocError> {
+    match fs::metadata(rt, path) {
+        Ok(data) => Ok(data.is_dir()),
+        Err(error) if error.kind() == ErrorKind::OutOfMemory => Err(AllocError),
+        Err(_) => Ok(false),
+    }
 }
 
 // A folder that isn't listed yet, how many lines say what is ignored there, without its own, and how many are of outer repositories.
@@ -486,7 +508,7 @@ fn manifests_in<R: Runtime + AllocGlobal, O: Write, E: Write>(
         ignored: ignored.len(),
         outer: 0,
     };
-    let mut left = Left::new(ignored, excluded);
+    let mut left = Left::new(ignored, excluded, true);
     let mut waiting = vec![in alloc; first]?;
     for turn in 0..u64::MAX {
         let Some(
@@ -749,101 +771,149 @@ pub fn add_roots<R: Runtime + AllocGlobal, O: Write, E: Write>(
     Ok(())
 }
 
-/// The manifests of the workspaces that the package.json of a root names.
+// A folder on the way to workspaces, and whether none are in it.
+#[derive(Drop)]
+struct Step {
+    folder: String,
+    is_last: bool,
+}
+
+// Adds those of some folders that lead to workspaces of a root to the ones that wait. They stand below a folder, and perhaps are links.
+fn add_steps<R: Files + AllocGlobal>(
+    rt: &R,
+    workspaces: &[Workspace],
+    root: &str,
+    mut folders: Vec<String>,
+    are_links: bool,
+    waiting: &mut Vec<Step>,
+) -> Result<(), AllocError> {
+    for _ in 0..folders.len() {
+        let Some(folder) = folders.pop() else {
+            break;
+        };
+        let below = folder.as_str().strip_prefix(root).unwrap_or("");
+        let way = way_to(rt.alloc(), workspaces, below, are_links)?;
+        if way == Way::Nowhere || are_links && !is_folder(rt, folder.as_str())? {
+            continue;
+        }
+        let is_last = way == Way::Here;
+        waiting.push(Step { folder, is_last })?;
+    }
+    Ok(())
+}
+
+// Finds the manifests of the workspaces below a root's folder, of each real folder once. Package managers find them by links, too, and
+// whatever git ignores.
+fn members_in<R: Runtime + AllocGlobal, O: Write, E: Write>(
+    rt: &R,
+    console: &mut Console<O, E>,
+    root: &str,
+    excluded: Vec<Ignored>,
+    workspaces: &mut [Workspace],
+    status: &mut Status,
+) -> Result<Vec<String>, Stop> {
+    let alloc = console.alloc;
+    let mut found = Vec::new(alloc);
+    let mut left = Left::new(Vec::new(alloc), excluded, false);
+    let mut seen = HashSet::new(alloc);
+    let first = Step {
+        folder: String::from_str(alloc, root)?,
+        is_last: false,
+    };
+    let mut waiting = vec![in alloc; first]?;
+    for turn in 0..u64::MAX {
+        let Some(Step { folder, is_last }) = waiting.pop() else {
+            break;
+        };
+        let Some(
+            Folder {
+                manifests,
+                folders,
+                links,
+                ..
+            },
+        ) = listed(rt, console, folder.as_str(), &mut left, status)?
+        else {
+            continue;
+        };
+        let below = folder.as_str().strip_prefix(root).unwrap_or("");
+        let has_any = !manifests.is_empty();
+        let is_taken = turn == 0 || has_any && is_workspace(alloc, workspaces, below)?;
+        let inner = joined(alloc, folder.as_str(), "")?;
+        if is_taken && seen.insert(real_path(rt, inner.as_str())?)? && turn > 0 {
+            for path in manifests {
+                found.push(path)?;
+            }
+        }
+        if !is_last {
+            add_steps(rt, workspaces, root, links, true, &mut waiting)?;
+            add_steps(rt, workspaces, root, folders, false, &mut waiting)?;
+        }
+    }
+    Ok(found)
+}
+
+/// The workspaces of a root.
+#[derive(Drop)]
+pub struct Members {
+    /// The package.json of each.
+    pub manifests: Vec<String>,
+    /// Whether these are all.
+    is_whole: bool,
+}
+
+/// The workspaces that a manifest of a root names.
 pub fn members_of<R: Runtime + AllocGlobal, O: Write, E: Write>(
     rt: &R,
     console: &Console<O, E>,
     root: &str,
-) -> Result<Vec<String>, Stop> {
+) -> Result<Members, Stop> {
     let alloc = console.alloc;
     let (out, err) = (io::sink(), io::sink());
     let mut silent = Console::new(alloc, out, err, console.terminal, console.options);
     let mut workspaces = Vec::new(alloc);
     let mut status = add_workspaces(rt, &mut silent, root, &mut workspaces)?;
-    let mut members = Vec::new(alloc);
-    if workspaces.is_empty() {
-        return Ok(members);
-    }
-    let (folder, _) = split_path(root);
-    let below = manifests_in(rt, &mut silent, folder, Vec::new(alloc), &mut status)?;
-    for path in below.paths {
-        let (own, name) = split_path(path.as_str());
-        let rest = own.strip_prefix(folder).unwrap_or("");
-        let is_below = name == "package.json" && !rest.is_empty();
-        if is_below && is_workspace(alloc, workspaces.as_mut_slice(), rest)? {
-            members.push(path)?;
+    let mut manifests = Vec::new(alloc);
+    if !workspaces.is_empty() {
+        let (folder, _) = split_path(root);
+        let patterns = workspaces.as_mut_slice();
+        let none = Vec::new(alloc);
+        for path in members_in(rt, &mut silent, folder, none, patterns, &mut status)? {
+            if split_path(path.as_str()).1 == "package.json" {
+                manifests.push(path)?;
+            }
         }
     }
-    Ok(members)
+    let is_whole = status == Status::Answered && !workspaces.iter().any(is_elsewhere);
+    Ok(Members {
+        manifests,
+        is_whole,
+    })
 }
 
-// Adds the manifests of the workspaces below this folder.
-fn add_members<R: Runtime + AllocGlobal, O: Write, E: Write>(
+// Adds the manifests of the other workspaces of the root that this folder belongs to, which `workspace:` may name.
+fn add_siblings<R: Runtime + AllocGlobal, O: Write, E: Write>(
     rt: &R,
-    console: &mut Console<O, E>,
-    excludes: &[&str],
-    workspaces: &mut [Workspace],
+    console: &Console<O, E>,
     found: &mut Group,
-) -> Result<Status, Stop> {
+) -> Result<(), Stop> {
     let alloc = console.alloc;
-    let mut status = Status::Answered;
-    let below = manifests_in(rt, console, "", excluded(alloc, excludes)?, &mut status)?;
-    for path in below.paths {
-        let (folder, _) = split_path(path.as_str());
-        if !folder.is_empty() && is_workspace(alloc, workspaces, folder)? {
-            found.paths.push(path)?;
+    let mut seen = HashSet::new(alloc);
+    for path in found.paths.iter() {
+        let _ = seen.insert(real_path(rt, path.as_str())?)?;
+    }
+    let (mut others, mut is_whole) = (Vec::new(alloc), true);
+    for root in found.above.iter() {
+        let members = members_of(rt, console, root.as_str())?;
+        is_whole &= members.is_whole;
+        for path in members.manifests {
+            if seen.insert(real_path(rt, path.as_str())?)? {
+                others.push(path)?;
+            }
         }
     }
-    Ok(status)
-}
-
-// Adds the folders in a folder that isn't read otherwise, to the ones that wait; and matches those with a manifest, and links to such.
-fn mark_in<R: Runtime + AllocGlobal>(
-    rt: &R,
-    folder: &str,
-    workspaces: &mut [Workspace],
-    waiting: &mut Vec<String>,
-) -> io::Result<()> {
-    let alloc = rt.alloc();
-    for entry in fs::read_dir(rt, shown_folder(folder))? {
-        let entry = match entry {
-            Ok(entry) => entry,
-            Err(error) if error.kind() == ErrorKind::InvalidFilename => continue,
-            Err(error) => return Err(error),
-        };
-        let name = entry.file_name();
-        let kind = entry.file_type()?;
-        let is_folder = kind.is_dir();
-        if matches!(name, "node_modules" | ".git") || !is_folder && !kind.is_symlink() {
-            continue;
-        }
-        let path = joined(alloc, folder, name)?;
-        if !manifests_at(rt, path.as_str())?.is_empty() {
-            let _ = is_workspace(alloc, workspaces, path.as_str())?;
-        }
-        if is_folder {
-            waiting.push(path)?;
-        }
-    }
-    Ok(())
-}
-
-// Matches the folders below this one that git ignores, and links to folders, which npm takes for workspaces as well.
-fn mark_hidden<R: Runtime + AllocGlobal>(
-    rt: &R,
-    workspaces: &mut [Workspace],
-) -> Result<(), AllocError> {
-    let mut waiting = vec![in rt.alloc(); String::new(rt.alloc())]?;
-    for _ in 0..u64::MAX {
-        let Some(folder) = waiting.pop() else {
-            break;
-        };
-        match mark_in(rt, folder.as_str(), workspaces, &mut waiting) {
-            Err(error) if error.kind() == ErrorKind::OutOfMemory => return Err(AllocError),
-            // What can't be read matches nothing.
-            Ok(()) | Err(_) => (),
-        }
-    }
+    found.others = others;
+    found.is_whole = is_whole;
     Ok(())
 }
 
@@ -852,13 +922,9 @@ fn is_unmatched(workspace: &Workspace) -> bool {
     !workspace.has_match && !workspace.is_without
 }
 
-fn count_unmatched(workspaces: &[Workspace]) -> usize {
-    workspaces.iter().filter(|it| is_unmatched(it)).count()
-}
-
 // Whether a pattern names folders outside this one, which aren't read.
 fn is_elsewhere(workspace: &Workspace) -> bool {
-    workspace.text.as_str().starts_with("../")
+    workspace.text.as_str().split('/').any(|part| part == "..")
 }
 
 // Finds the manifests of this folder, and those of its workspaces.
@@ -870,7 +936,7 @@ fn manifests_here<R: Runtime + AllocGlobal, O: Write, E: Write>(
 ) -> Result<Group, Stop> {
     let alloc = console.alloc;
     let mut found = Group::new(alloc);
-    let mut left = Left::new(Vec::new(alloc), excluded(alloc, excludes)?);
+    let mut left = Left::new(Vec::new(alloc), excluded(alloc, excludes)?, true);
     match list(rt, "", &mut left) {
         Ok(Folder { manifests, .. }) => found.paths = manifests,
         Err(error) => {
@@ -889,18 +955,14 @@ fn manifests_here<R: Runtime + AllocGlobal, O: Write, E: Write>(
     }
     // A pattern may name this folder itself.
     let _ = is_workspace(alloc, workspaces.as_mut_slice(), "")?;
-    let members = workspaces.as_mut_slice();
-    let told = add_members(rt, console, excludes, members, &mut found)?;
-    *status = status.worse(told);
+    let left = excluded(alloc, excludes)?;
+    let patterns = workspaces.as_mut_slice();
+    for path in members_in(rt, console, "", left, patterns, status)? {
+        found.paths.push(path)?;
+    }
     if !excludes.is_empty() {
         return Ok(found);
     }
-    let unmatched = count_unmatched(workspaces.as_slice());
-    if unmatched > 0 {
-        mark_hidden(rt, workspaces.as_mut_slice())?;
-    }
-    // A pattern that matches only folders that aren't read names workspaces that aren't known.
-    let is_read = count_unmatched(workspaces.as_slice()) == unmatched;
     let mut has_elsewhere = false;
     for workspace in workspaces {
         if is_elsewhere(&workspace) {
@@ -909,7 +971,7 @@ fn manifests_here<R: Runtime + AllocGlobal, O: Write, E: Write>(
             found.unmatched.push(workspace.text)?;
         }
     }
-    found.is_whole = is_read && !has_elsewhere && *status == Status::Answered;
+    found.is_whole = !has_elsewhere && *status == Status::Answered;
     Ok(found)
 }
 
@@ -1027,6 +1089,28 @@ fn hint_at_range<O: Write, E: Write>(console: &mut Console<O, E>, file: &str) ->
     Ok(())
 }
 
+// Reports where a file isn't valid UTF-8.
+fn complain_of_byte<R: Files + AllocGlobal, O: Write, E: Write>(
+    rt: &R,
+    console: &mut Console<O, E>,
+    file: &str,
+) -> Result<Status, Stop> {
+    let reason = "not valid UTF-8";
+    let bytes = match fs::read(rt, file) {
+        Ok(bytes) => bytes,
+        Err(error) if error.kind() == ErrorKind::OutOfMemory => return Err(Stop::OutOfMemory),
+        Err(_) => return Ok(console.complain(Shown(file), reason)),
+    };
+    let valid = match str::from_utf8(bytes.as_slice()) {
+        Ok(text) => text.len(),
+        Err(error) => error.valid_up_to(),
+    };
+    let text = str::from_utf8(bytes.get(..valid).unwrap_or(&[])).unwrap_or("");
+    let mut position = Position::START;
+    position.move_to(text, text.len());
+    Ok(console.complain(format_args!("{}:{position}", Shown(file)), reason))
+}
+
 /// Reads a file, or standard input for `-`; what is wrong with the file itself is reported on standard error.
 pub fn read_file<R: Input + Files + AllocGlobal, O: Write, E: Write>(
     rt: &R,
@@ -1055,6 +1139,9 @@ pub fn read_file<R: Input + Files + AllocGlobal, O: Write, E: Write>(
             }
             ErrorKind::PermissionDenied => "permission denied",
             ErrorKind::IsADirectory => "is a directory",
+            ErrorKind::InvalidData if file != "-" => {
+                return Err(Stop::Ended(complain_of_byte(rt, console, file)?));
+            }
             ErrorKind::InvalidData => "not valid UTF-8",
             _ => "can't be read",
         },
@@ -1083,17 +1170,15 @@ pub fn find<R: Runtime + AllocGlobal, O: Write, E: Write>(
         let mut status = Status::Answered;
         let mut found = manifests_here(rt, console, excludes, &mut status)?;
         found.above = manifests_above(rt, console, "", &[], &mut roots)?;
+        if !found.above.is_empty() && excludes.is_empty() {
+            add_siblings(rt, console, &mut found)?;
+        }
         all.status = with_something(console, ".", &found, status);
         all.groups.push(found)?;
     }
     for file in files.unwrap_or(&[]) {
-        let is_folder = match fs::metadata(rt, *file) {
-            Ok(data) => data.is_dir() && *file != "-",
-            Err(error) if error.kind() == ErrorKind::OutOfMemory => return Err(Stop::OutOfMemory),
-            Err(_) => false,
-        };
         let mut found = Group::new(alloc);
-        if is_folder {
+        if *file != "-" && is_folder(rt, file)? {
             let mut status = Status::Answered;
             found = manifests_in(rt, console, file, excluded(alloc, excludes)?, &mut status)?;
             let status = with_something(console, file, &found, status);
