@@ -204,8 +204,9 @@ int32_t semver_ranges(uint32_t grammar, const char *range, size_t range_len, cha
 
 /* What a range means, as JSON: YES or TAG. The members are "alternatives" (in their order) and "normal" (the canonical form). An
  * alternative has "text", without the whitespace around it. If it is invalid, and so left out, it has "error" (as from semver_errors).
- * Else it has "end" and "start" (as from semver_ranges), "lowest" (the lowest version that it matches, or null), and "pre-releases" (an
- * array of the three numbers whose pre-releases match, or "all"). */
+ * Else it has "comparators", "end" and "start" (as from semver_ranges), "lowest" (the lowest version that it matches, or null), and
+ * "pre-releases" (an array of the three numbers whose pre-releases match, or "all"). A comparator has "end", "start" and "text", its string
+ * as written. A hyphen range counts as one comparator. */
 int32_t semver_explain(uint32_t grammar, const char *range, size_t range_len, uint32_t pre_releases,
                        char *out, size_t out_len, size_t *needed);
 

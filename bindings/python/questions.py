@@ -62,8 +62,13 @@ def error_json(error):
 def alternative_json(alternative):
     if alternative.error:
         return {"error": error_json(alternative.error), "text": alternative.text}
-    bounds = {"start": bound_json(alternative.start), "end": bound_json(alternative.end)}
-    return {**bounds, "lowest": alternative.lowest, "pre-releases": alternative.pre_releases, "text": alternative.text}
+    comparators = [{**bounds_json(it), "text": it.text} for it in alternative.comparators]
+    parts = {"lowest": alternative.lowest, "pre-releases": alternative.pre_releases, "text": alternative.text}
+    return {**bounds_json(alternative), **parts, "comparators": comparators}
+
+
+def bounds_json(it):
+    return {"start": bound_json(it.start), "end": bound_json(it.end)}
 
 
 def explanation_json(explanation):

@@ -19,6 +19,7 @@ pre-release between the bounds matches only if a bound is a pre-release of the s
 from ._errors import IncrementError, InvalidPackage, InvalidRange, InvalidVersion, SemverError, TagError
 from ._functions import (
     Alternative,
+    Comparator,
     Bound,
     Bounds,
     Dependency,
@@ -65,6 +66,7 @@ __version__ = "0.1.0"
 
 __all__ = [
     "Alternative",
+    "Comparator",
     "Bound",
     "Bounds",
     "Dependency",

@@ -444,12 +444,20 @@ def bounds(range: AnyRange, *, grammar: Optional[Grammar] = None) -> List[Bounds
     return [Bounds(_bound(parts["start"]), _bound(parts["end"])) for parts in json.loads(written)]
 
 
+class Comparator(NamedTuple):
+    """A comparator of a range as written, such as ">=1.2", or a hyphen range; and its bounds, or None where it has none."""
+
+    text: str
+    start: Optional[Bound]
+    end: Optional[Bound]
+
+
 class Alternative(NamedTuple):
     """An alternative of a range, and what it means.
 
     `start` and `end` are its bounds, or None where it has none. `pre_releases` has the three numbers whose pre-releases match, such as
     "1.2.3", or is "all". `lowest` is the lowest version that matches, or None. `error` says why an invalid alternative is left out; its
-    indexes are those of the whole range.
+    indexes are those of the whole range. `comparators` are those of a valid alternative, in their order.
     """
 
     text: str
@@ -458,6 +466,7 @@ class Alternative(NamedTuple):
     pre_releases: Union[Tuple[str, ...], Literal["all"]]
     lowest: Optional[str]
     error: Optional[InvalidRange]
+    comparators: Tuple[Comparator, ...] = ()
 
 
 class Explanation(NamedTuple):
@@ -473,7 +482,8 @@ def _alternative(text: str, parts: Dict[str, Any]) -> Alternative:
         return Alternative(parts["text"], None, None, (), None, error)
     pre_releases = parts["pre-releases"]
     numbers = pre_releases if pre_releases == "all" else tuple(pre_releases)
-    return Alternative(parts["text"], _bound(parts["start"]), _bound(parts["end"]), numbers, parts["lowest"], None)
+    comparators = tuple(Comparator(it["text"], _bound(it["start"]), _bound(it["end"])) for it in parts["comparators"])
+    return Alternative(parts["text"], _bound(parts["start"]), _bound(parts["end"]), numbers, parts["lowest"], None, comparators)
 
 
 def explain(range: AnyRange, *, grammar: Optional[Grammar] = None, pre_releases: bool = False) -> Explanation:
@@ -482,6 +492,8 @@ def explain(range: AnyRange, *, grammar: Optional[Grammar] = None, pre_releases:
     >>> valid, invalid = explain(">=1.2.3-rc || 1..2").alternatives
     >>> valid.start, valid.end, valid.pre_releases, valid.lowest
     (Bound(version='1.2.3-rc', inclusive=True), None, ('1.2.3',), '1.2.3-rc')
+    >>> [it.text for it in explain("^1.2 <1.5").alternatives[0].comparators]
+    ['^1.2', '<1.5']
     >>> invalid.text, str(invalid.error)
     ('1..2', "'>=1.2.3-rc || 1..2': Unexpected character. (at index 16)")
     """
