@@ -14,7 +14,7 @@ class InvalidTextError extends SyntaxError {
   constructor(text, message, index, find) {
     super(message);
     this.text = text;
-    this.index = index;
+    if (index !== undefined) this.index = index;
     this.#find = find;
   }
 

@@ -321,10 +321,22 @@ export interface Bound {
   readonly inclusive: boolean;
 }
 
+/** A comparator of a range, such as `>=1.2`, or a hyphen range, such as `1 - 2`. */
+export interface Comparator {
+  /** The string as written. */
+  readonly text: string;
+  /** Where it starts; null where it has no lower bound. */
+  readonly start: Bound | null;
+  /** Where it ends; null where it has no upper bound. */
+  readonly end: Bound | null;
+}
+
 /** An alternative of a range. */
 export interface ValidAlternative {
   /** The string, without the whitespace around it. */
   readonly text: string;
+  /** Its comparators; none if it is empty. */
+  readonly comparators: readonly Comparator[];
   /** Where it starts; null where it has no lower bound. */
   readonly start: Bound | null;
   /** Where it ends; null where it has no upper bound. */

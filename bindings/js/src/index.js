@@ -185,8 +185,9 @@ export function explain(range, options) {
   return { alternatives: alternatives.map((it) => alternativeOf(it, indexes)), canonical: normal };
 }
 
-function alternativeOf({ text, error, start, end, lowest, 'pre-releases': preReleases }, indexes) {
-  return error ? { text, error: withIndexes(error, indexes) } : { text, start, end, preReleases, lowest };
+function alternativeOf({ text, error, comparators, start, end, lowest, 'pre-releases': preReleases }, indexes) {
+  if (error) return { text, error: withIndexes(error, indexes) };
+  return { text, comparators: comparators.map((it) => ({ text: it.text, start: it.start, end: it.end })), start, end, preReleases, lowest };
 }
 
 export function diagnose(range, options) {

@@ -126,6 +126,10 @@ for (const [kind, semver] of [['ES modules', modules], ['CommonJS', common]]) {
     assert.deepEqual(first.end, { version: '2.0.0', inclusive: false });
     assert.deepEqual(first.preReleases, ['1.2.3']);
     assert.equal(first.lowest, '1.2.3-beta');
+    assert.deepEqual(first.comparators, [
+      { text: '>=1.2.3-beta', start: first.start, end: null },
+      { text: '<2', start: { version: '0.0.0', inclusive: true }, end: first.end },
+    ]);
     assert.equal(second.text, 'foo bar');
     assert.equal(second.error.message, 'Unexpected character.');
     assert.deepEqual(third.start, third.end);

@@ -109,6 +109,7 @@ for (const [where, library] of libraries) {
     assert.deepEqual([library.major('v=34.2.3', true), library.compareLoose('=1.2.3', '01.02.03')], [34, 0]);
     assert.deepEqual([undefined, true].map((options) => library.validRange('>01.2 || foo', options)), [null, '>=1.3.0']);
     assert.deepEqual(['v= 1', '> = 1', '>= v1'].map((range) => library.validRange(range)), [null, null, '>=1.0.0']);
+    assert.deepEqual(['/ * a', '/ *', '* 1 *'].map((range) => library.validRange(range, true)), [null, '*', '>=1.0.0 <2.0.0-0']);
     assert.equal(library.validRange('"== 1', true), '>=1.0.0 <2.0.0-0');
   });
 

@@ -36,8 +36,11 @@ const nameJson = ({ name, scope, version }) => ({ name, scope, version });
 /** An error of a text in ASCII, whose indexes are those of its bytes. */
 const errorJson = ({ message, start, end, expected }) => ({ end, expected, message, start });
 
-function alternativeJson({ text, error, start, end, lowest, preReleases }) {
-  return error ? { error: errorJson(error), text } : { end, lowest, 'pre-releases': preReleases, start, text };
+const comparatorJson = ({ text, start, end }) => ({ end, start, text });
+
+function alternativeJson({ text, error, comparators, start, end, lowest, preReleases }) {
+  if (error) return { error: errorJson(error), text };
+  return { comparators: comparators.map(comparatorJson), end, lowest, 'pre-releases': preReleases, start, text };
 }
 
 /** How the calls that name a grammar answer. */

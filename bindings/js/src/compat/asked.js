@@ -16,8 +16,8 @@ export function textOf(set) {
 }
 
 /** Whether the version, a `SemVer`, matches. */
-export function matches({ set, range }, version, includesPre) {
-  return isPreOfZero(version) ? matchesEach(set, version, includesPre) : matchesText(range, version.version, includesPre);
+export function matches(read, version, includesPre) {
+  return isPreOfZero(version) ? matchesEach(read.set, version, includesPre) : matchesText(read.range, version.version, includesPre);
 }
 
 /** Whether the text of a version that isn't a pre-release of 0.0.0 matches the comparators. */

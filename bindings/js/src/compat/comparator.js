@@ -1,7 +1,7 @@
 // A comparator: an operator and a version, or any version.
 
 import { haveCommon } from './asked.js';
-import { grammarFor } from './grammar.js';
+import { grammarFor, isUsual } from './grammar.js';
 import { optionsOf } from './options.js';
 import { SemVer, semverOf } from './semver.js';
 
@@ -54,13 +54,21 @@ export class Comparator {
 }
 
 function partsOf(source) {
-  const [operator] = /^[<>]?=?/.exec(source);
+  const length = source[0] === '<' || source[0] === '>' ? 1 : 0;
+  const operator = source.slice(0, source[length] === '=' ? length + 1 : length);
   return { operator, version: source.slice(operator.length).trim() };
 }
 
 /** Whether the text, whose whitespace is single spaces, is a comparator. */
 export function isComparator(source, options) {
   return source === '' || grammarFor(options).version.test(partsOf(source).version);
+}
+
+/** The `value` of the comparator that a text without whitespace is; undefined where it's none. */
+export function valueOf(source, options) {
+  const { operator, version } = partsOf(source);
+  if (isUsual(version)) return operator === '=' ? version : source;
+  return isComparator(source, options) ? new Comparator(source, options).value : undefined;
 }
 
 /** The version; undefined for an invalid text. */

@@ -15,18 +15,22 @@ const raised = (number) => Number(number) + 1;
 export function desugar(alternative, options) {
   const grammar = grammarFor(options);
   const zero = options.includePrerelease ? '-0' : '';
-  const tokens = withoutHyphen(alternative, grammar, zero)
-    .replace(SPACED_OPERATOR, '$1$2$3').replace(SPACED_TILDE, '~').replace(SPACED_CARET, '^')
-    .split(' ');
-  const comparators = tokens.map((token) => comparatorsOf(token, grammar, zero)).join(' ').split(/\s+/);
+  const tokens = alternative.includes(' ') ? tokensOf(withoutHyphen(alternative, grammar, zero)) : [alternative];
+  const comparators = tokens.map((token) => comparatorsOf(token, grammar, zero)).join(' ').split(/ +/);
   return comparators.map((comparator) => (comparator === `>=0.0.0${zero}` ? '' : comparator));
+}
+
+/** The comparators without whitespace. */
+function tokensOf(alternative) {
+  return alternative.replace(SPACED_OPERATOR, '$1$2$3').replace(SPACED_TILDE, '~').replace(SPACED_CARET, '^').split(' ');
 }
 
 /** `1.2 - 3.4` as comparators, and anything else as it was. */
 function withoutHyphen(alternative, grammar, zero) {
-  const ends = alternative.split(/\s+-\s+/);
+  const ends = alternative.split(' - ');
+  if (ends.length !== 2) return alternative;
   const [from, to] = ends.map((end) => grammar.partial.exec(end)?.groups);
-  if (ends.length !== 2 || !from || !to) return alternative;
+  if (!from || !to) return alternative;
   return `${lowerEnd(ends[0], from, zero)} ${upperEnd(ends[1], to, zero)}`.trim();
 }
 

@@ -2,7 +2,7 @@
 
 import { kindOf } from '../errors.js';
 import { haveCommon, matches, matchesText, textOf } from './asked.js';
-import { Comparator, isComparator, parsed } from './comparator.js';
+import { Comparator, isComparator, parsed, valueOf } from './comparator.js';
 import { desugar } from './desugar.js';
 import { isUsual } from './grammar.js';
 import { optionsOf } from './options.js';
@@ -13,6 +13,25 @@ const NOTHING = '<0.0.0-0';
 
 // What the last ranges read as, by their texts, for each of the four kinds of options; null for an invalid text.
 const readings = [new Map(), new Map(), new Map(), new Map()];
+
+/** What a text reads as. Most calls need its `range` alone, so `set` is made where it's asked for. */
+class Reading {
+  #alternatives;
+  #options;
+  #set;
+
+  constructor(raw, alternatives, options) {
+    this.raw = raw;
+    this.range = alternatives.map((comparators) => [...comparators.keys()].join(' ')).join('||');
+    this.#alternatives = alternatives;
+    this.#options = { ...options }; // as they are now, since the caller may change them
+  }
+
+  get set() {
+    const comparatorsOf = (texts) => [...texts.values()].map((text) => new Comparator(text, this.#options));
+    return (this.#set ??= this.#alternatives.map(comparatorsOf));
+  }
+}
 
 export class Range {
   constructor(range, options) {
@@ -83,7 +102,7 @@ function knownOf(options) {
 /** Keeps what a text reads as, and returns it. */
 function keep(text, options, reading) {
   const known = knownOf(options);
-  if (text?.length <= LONGEST_READ) {
+  if (text.length <= LONGEST_READ) {
     if (known.size >= MOST_READ) known.delete(known.keys().next().value);
     known.set(text, reading);
   }
@@ -98,34 +117,26 @@ function readingOf(text, options) {
 
 /** The same, and `TypeError` where it's invalid. */
 function expectReading(text, options) {
-  return knownOf(options).get(text) ?? keep(text, options, read(text, options));
+  if (typeof text !== 'string') throw new TypeError(`range must be a string, a Range or a Comparator, not ${kindOf(text)}`);
+  return readingOf(text, options) ?? failToRead(withSingleSpaces(text), options);
+}
+
+/** Throws what is wrong with a text: a comparator, or that there is none. */
+function failToRead(raw, options) {
+  const texts = desugared(raw, options).flat();
+  for (const text of options.loose ? texts.filter((it) => isComparator(it, options)) : texts) new Comparator(text, options);
+  throw new TypeError(`Invalid SemVer Range: ${raw}`);
 }
 
 function readOrNull(text, options) {
   const raw = withSingleSpaces(text);
-  const alternatives = desugared(raw, options);
-  const isValid = options.loose || alternatives.flat().every((it) => isComparator(it, options)); // `loose` leaves others out
-  return isValid ? orNull(() => readDesugared(raw, alternatives, options)) : null;
-}
-
-function orNull(call) {
   try {
-    return call();
+    const alternatives = alternativesOf(desugared(raw, options).map((texts) => comparatorsOf(texts, options)));
+    return alternatives && new Reading(raw, alternatives, options);
   } catch (error) {
     if (error instanceof TypeError) return null;
     throw error;
   }
-}
-
-function read(text, options) {
-  if (typeof text !== 'string') throw new TypeError(`range must be a string, a Range or a Comparator, not ${kindOf(text)}`);
-  const raw = withSingleSpaces(text);
-  return readDesugared(raw, desugared(raw, options), options);
-}
-
-function readDesugared(raw, alternatives, options) {
-  const set = setOf(raw, alternatives, options);
-  return { raw, set, range: textOf(set) };
 }
 
 function withSingleSpaces(text) {
@@ -137,23 +148,32 @@ function desugared(range, options) {
   return range.split('||').map((text) => desugar(text.trim(), options));
 }
 
-/** The alternatives of a range. Where one matches any version it is the only one, and those that match nothing are left out. */
-function setOf(range, alternatives, options) {
-  const read = alternatives.map((texts) => comparatorsOf(texts, options)).filter((comparators) => comparators.length > 0);
-  if (read.length === 0) throw new TypeError(`Invalid SemVer Range: ${range}`);
-  const set = read.filter(([first]) => first.value !== NOTHING);
-  if (set.length === 0) return [read[0]];
-  const any = set.find((comparators) => comparators.length === 1 && comparators[0].value === '');
+/**
+ * The alternatives of a range; null where one is invalid, or there is none. Where one matches any version it is the only one, and those that
+ * match nothing are left out.
+ */
+function alternativesOf(read) {
+  if (read.includes(undefined)) return null;
+  const some = read.filter((comparators) => comparators.size > 0);
+  if (some.length === 0) return null;
+  const set = some.filter((comparators) => !comparators.has(NOTHING));
+  if (set.length === 0) return [some[0]];
+  const any = set.find((comparators) => comparators.has(''));
   return any ? [any] : set;
 }
 
-/** The comparators of an alternative, each once. One that matches nothing is the only one, and one that matches any version isn't kept. */
+/**
+ * The texts of the comparators of an alternative, by their values; undefined where one is invalid, which `loose` leaves out. One that matches
+ * nothing is the only one, and one that matches any version isn't kept.
+ */
 function comparatorsOf(texts, options) {
-  const known = options.loose ? texts.filter((it) => isComparator(it, options)) : texts;
-  const comparators = known.map((it) => new Comparator(it, options));
-  const nothing = comparators.find(({ value }) => value === NOTHING);
-  if (nothing) return [nothing];
-  const byValue = new Map(comparators.map((it) => [it.value, it]));
-  if (byValue.size > 1) byValue.delete('');
-  return [...byValue.values()];
+  const comparators = new Map();
+  for (const text of texts) {
+    const value = valueOf(text, options);
+    if (value !== undefined) comparators.set(value, text);
+    else if (!options.loose) return undefined;
+  }
+  if (comparators.has(NOTHING)) return new Map([[NOTHING, comparators.get(NOTHING)]]);
+  if (comparators.size > 1) comparators.delete('');
+  return comparators;
 }
