@@ -96,6 +96,11 @@ fn pre_releases() {
     each("pre-releases alone: parse", &texts, |text| Version::parse_standard(text));
     each("pre-releases alone: match", &versions, |version| req.matches(version));
     each("pre-releases alone: parse and match once", &texts, |text| req.matches(&Version::parse_standard(text).unwrap()));
+    let of_pre = VersionReq::parse_from_npm(">=1.2.3-beta <2 || ^4.0.0-rc.1").unwrap();
+    each("pre-releases alone: match a range of them", &versions, |version| of_pre.matches(version));
+    each("pre-releases alone: parse and match a range of them once", &texts, |text| {
+        of_pre.matches(&Version::parse_standard(text).unwrap())
+    });
     time("pre-releases alone: sort", COUNT, || {
         let mut list = versions.clone();
         list.sort();

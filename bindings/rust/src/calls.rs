@@ -1,6 +1,6 @@
 //! What the C calls have in common: codes, texts and error messages.
 
-use crate::externs::{semver_is_tag, semver_version_numbers};
+use crate::externs::semver_is_tag;
 use crate::own;
 use std::alloc::{handle_alloc_error, Layout};
 use std::cmp::Ordering;
@@ -61,13 +61,18 @@ pub(crate) fn with_text<T>(mut call: impl FnMut(&mut [u8], &mut usize) -> i32, t
     take(code, std::str::from_utf8(&out[..needed]).expect("the library's texts are UTF-8"))
 }
 
+/// The code and the text of such a call.
+pub(crate) fn code_and_text(call: impl FnMut(&mut [u8], &mut usize) -> i32) -> (i32, String) {
+    with_text(call, |code, text| (code, text.to_owned()))
+}
+
 /// The text of a call that writes one or an error message.
 pub(crate) fn text_or_message(call: impl FnMut(&mut [u8], &mut usize) -> i32) -> Result<String, String> {
-    with_text(call, |code, text| match code {
-        YES => Ok(text.to_owned()),
-        INVALID_RANGE | INVALID_VERSION => Err(text.to_owned()),
-        _ => failed(code),
-    })
+    match code_and_text(call) {
+        (YES, text) => Ok(text),
+        (INVALID_RANGE | INVALID_VERSION, message) => Err(message),
+        (code, _) => failed(code),
+    }
 }
 
 /// Whether a range is a tag, or the error message.
@@ -85,21 +90,7 @@ pub(crate) fn is_tag(grammar: Grammar, text: &str) -> Result<bool, String> {
 /// The error message of a range.
 #[cold]
 pub(crate) fn message(grammar: Grammar, text: &str) -> String {
-    with_text(|out, needed| semver_is_tag(grammar as u32, text, out, needed), |_, message| message.to_owned())
-}
-
-/// The three numbers of a version, and whether it has neither a pre-release nor a build. None for a text that isn't a version.
-#[inline]
-pub(crate) fn version_numbers(text: &str) -> Option<([u64; 3], bool)> {
-    if let Some(release) = own::plain_release(text) {
-        return Some((release, true));
-    }
-    let mut numbers = [0; 3];
-    match semver_version_numbers(text, &mut numbers, &mut 0) {
-        code @ (NO | YES) => Some((numbers, code == YES)),
-        INVALID_VERSION => None,
-        code => failed(code),
-    }
+    code_and_text(|out, needed| semver_is_tag(grammar as u32, text, out, needed)).1
 }
 
 /// The answer of a call that answers yes or no. None if a range is a tag.

@@ -1,36 +1,42 @@
 //! References to JSR packages, and the dependencies of one.
 
+use crate::calls::Grammar;
 use crate::error::{display, errors};
 use crate::own;
 use crate::package::{references, PackageKind, PackageReq, PackageReqParseError};
 use crate::string::StackString;
 use std::borrow::Cow;
 
-references!(
+pub use crate::own::normalized_export_name;
+
+references! {
+    Jsr:
     /// A reference to a JSR package, such as `jsr:@scope/name@^1.2/mod.ts`.
-    JsrPackageReqReference,
+    #[derive(Clone, Debug, PartialEq, Eq, Hash)]
+    JsrPackageReqReference(PackageReqReference), req: PackageReq, PackageReqReferenceParseError;
     /// A reference to one version of a JSR package, such as `jsr:@scope/name@1.2.3/mod.ts`.
-    JsrPackageNvReference,
-    Jsr
-);
+    #[derive(Clone, Debug, PartialEq, Eq, PartialOrd, Ord, Hash)]
+    JsrPackageNvReference(PackageNvReference), nv: PackageNv, PackageNvReferenceParseError;
+}
 
 impl JsrPackageReqReference {
     /// The name of the export that the path means.
     pub fn export_name(&self) -> Cow<'_, str> {
-        own::export_name(self.sub_path())
+        normalized_export_name(self.sub_path())
     }
 }
 
 impl JsrPackageNvReference {
     /// The name of the export that the path means.
     pub fn export_name(&self) -> Cow<'_, str> {
-        own::export_name(self.sub_path())
+        normalized_export_name(self.sub_path())
     }
-}
 
-/// The export's name, such as `./mod.ts`, for a path in a JSR package; without a path it is `.`.
-pub fn normalized_export_name(sub_path: Option<&str>) -> Cow<'_, str> {
-    own::export_name(sub_path)
+    /// The reference as a URL.
+    #[cfg(feature = "url")]
+    pub fn as_specifier(&self) -> url::Url {
+        self.0.as_specifier(PackageKind::Jsr)
+    }
 }
 
 /// A dependency of a JSR package: a package of JSR or npm with a requirement, such as `npm:name@1`.
@@ -56,26 +62,24 @@ impl JsrDepPackageReq {
     /// Parses a dependency with a requirement of the strict grammar.
     #[allow(clippy::should_implement_trait)]
     pub fn from_str(text: &str) -> Result<JsrDepPackageReq, JsrDepPackageReqParseError> {
-        JsrDepPackageReq::parse(text, PackageReq::from_str)
+        JsrDepPackageReq::parse(Grammar::Strict, text)
     }
 
     /// Parses a dependency with a requirement of npm's grammar.
     pub fn from_str_loose(text: &str) -> Result<JsrDepPackageReq, JsrDepPackageReqParseError> {
-        JsrDepPackageReq::parse(text, PackageReq::from_str_loose)
+        JsrDepPackageReq::parse(Grammar::Npm, text)
     }
 
     /// Parses a dependency with a requirement of the normalized grammar.
     pub fn from_str_normalized(text: &str) -> Result<JsrDepPackageReq, JsrDepPackageReqParseError> {
-        JsrDepPackageReq::parse(text, PackageReq::from_str_normalized)
+        JsrDepPackageReq::parse(Grammar::Normalized, text)
     }
 
-    fn parse(
-        text: &str,
-        parse_req: fn(&str) -> Result<PackageReq, PackageReqParseError>,
-    ) -> Result<JsrDepPackageReq, JsrDepPackageReqParseError> {
-        let (kind, package) =
-            own::dependency_parts(text).map_err(|scheme| JsrDepPackageReqParseError::NotExpectedScheme(scheme.to_owned()))?;
-        Ok(JsrDepPackageReq { kind, req: parse_req(package)? })
+    fn parse(grammar: Grammar, text: &str) -> Result<JsrDepPackageReq, JsrDepPackageReqParseError> {
+        let not_expected = |scheme: &str| JsrDepPackageReqParseError::NotExpectedScheme(scheme.to_owned());
+        let (kind, package) = own::dependency_parts(text).map_err(not_expected)?;
+        let req = PackageReq::parse(grammar, package).map_err(JsrDepPackageReqParseError::PackageReqParse)?;
+        Ok(JsrDepPackageReq { kind, req })
     }
 
     /// The canonical form of the whole string, to be stored. It isn't a URL.
@@ -89,7 +93,7 @@ display! {
 }
 
 /// Why a string isn't a dependency.
-#[derive(Clone, Debug, PartialEq, Eq)]
+#[derive(Clone, PartialEq, Eq)]
 pub enum JsrDepPackageReqParseError {
     /// The scheme is neither `jsr` nor `npm`. The field is the scheme, or the whole string if it has no scheme.
     NotExpectedScheme(String),

@@ -18,6 +18,7 @@
 #![deny(unsafe_code)]
 
 mod calls;
+mod cow_vec;
 mod error;
 #[allow(unsafe_code)] // where `raw::calls` expands
 mod externs;
@@ -41,6 +42,7 @@ mod version;
 mod version_req;
 
 pub use calls::{Grammar, PreRelease};
+pub use cow_vec::CowVec;
 pub use error::{ParseErrorFailureError, Place};
 pub use partial::{Partial, XRange};
 pub use range::{PackageTag, RangeBound, RangeSetOrTag, VersionBound, VersionBoundKind, VersionRange, VersionRangeSet};
@@ -52,15 +54,12 @@ pub use version_req::{VersionReq, VersionReqNormalizedParseError, VersionReqSpec
 
 use std::sync::LazyLock;
 
-/// A list of identifiers or ranges.
-pub type CowVec<T> = Vec<T>;
-
 /// The requirement `*`, which matches every release.
 pub static WILDCARD_VERSION_REQ: LazyLock<VersionReq> =
     LazyLock::new(|| VersionReq::parse_from_specifier("*").expect("`*` is a range"));
 
 /// Which of several ranges is invalid, and why.
-#[derive(Clone, Debug, PartialEq, Eq)]
+#[derive(Clone, PartialEq, Eq)]
 pub struct InvalidRange {
     /// Which range it is, counted from 0.
     pub place: usize,

@@ -1,6 +1,6 @@
 //! Questions about lists of versions.
 
-use crate::calls::{failed, lines, message, with_text, INVALID_RANGE, INVALID_VERSION, NO, TAG, YES};
+use crate::calls::{code_and_text, failed, lines, message, INVALID_RANGE, INVALID_VERSION, NO, TAG, YES};
 use crate::externs::*;
 use crate::raw::Versions;
 use crate::version_req::VersionReq;
@@ -144,13 +144,12 @@ pub fn simplify(
     let call = |out: &mut _, needed: &mut _| {
         semver_simplify(grammar as u32, range, &versions, pre_release as u32, out, needed, &mut place)
     };
-    let (code, text) = with_text(call, |code, text| (code, text.to_owned()));
-    match code {
-        YES => Ok(Simplified::Range(text)),
-        TAG => Ok(Simplified::Tag),
-        INVALID_VERSION => Ok(Simplified::Invalid(place)),
-        INVALID_RANGE => Err(InvalidRange { place, message: text }),
-        code => failed(code),
+    match code_and_text(call) {
+        (YES, text) => Ok(Simplified::Range(text)),
+        (TAG, _) => Ok(Simplified::Tag),
+        (INVALID_VERSION, _) => Ok(Simplified::Invalid(place)),
+        (INVALID_RANGE, message) => Err(InvalidRange { place, message }),
+        (code, _) => failed(code),
     }
 }
 

@@ -1,7 +1,7 @@
 //! Exact answers about ranges: the lowest version that one matches, that all match, or that only one of two matches, and whether two match
 //! the same versions.
 
-use crate::calls::{answer, failed, lines, message, text_or_message, with_text, INVALID_RANGE, NO, TAG, YES};
+use crate::calls::{answer, code_and_text, failed, lines, message, text_or_message, INVALID_RANGE, NO, TAG, YES};
 use crate::externs::*;
 use crate::{Grammar, InvalidRange, PreRelease};
 use std::fmt::Display;
@@ -20,13 +20,11 @@ pub enum Lowest {
 // What a call found: `found` is the code that comes with a version.
 fn lowest(found: i32, mut call: impl FnMut(&mut [u8], &mut usize, &mut usize) -> i32) -> Result<Lowest, InvalidRange> {
     let mut place = 0;
-    let (code, text) = with_text(|out, needed| call(out, needed, &mut place), |code, text| (code, text.to_owned()));
-    match code {
-        TAG => Ok(Lowest::Tag),
-        INVALID_RANGE => Err(InvalidRange { place, message: text }),
-        NO | YES if code == found => Ok(Lowest::Version(text)),
-        NO | YES => Ok(Lowest::Nothing),
-        _ => failed(code),
+    match code_and_text(|out, needed| call(out, needed, &mut place)) {
+        (TAG, _) => Ok(Lowest::Tag),
+        (INVALID_RANGE, message) => Err(InvalidRange { place, message }),
+        (code @ (NO | YES), text) => Ok(if code == found { Lowest::Version(text) } else { Lowest::Nothing }),
+        (code, _) => failed(code),
     }
 }
 

@@ -33,10 +33,20 @@ parse_error!(
     "Invalid version requirement"
 );
 
-references!(
+references! {
+    Npm:
     /// A reference to an npm package, such as `npm:name@^1.2/path`.
-    NpmPackageReqReference,
+    #[derive(Clone, Debug, PartialEq, Eq, Hash)]
+    NpmPackageReqReference(PackageReqReference), req: PackageReq, PackageReqReferenceParseError;
     /// A reference to one version of an npm package, such as `npm:name@1.2.3/path`.
-    NpmPackageNvReference,
-    Npm
-);
+    #[derive(Clone, Debug, PartialEq, Eq, PartialOrd, Ord, Hash)]
+    NpmPackageNvReference(PackageNvReference), nv: PackageNv, PackageNvReferenceParseError;
+}
+
+#[cfg(feature = "url")]
+impl NpmPackageNvReference {
+    /// The reference as a URL.
+    pub fn as_specifier(&self) -> url::Url {
+        self.0.as_specifier(crate::package::PackageKind::Npm)
+    }
+}

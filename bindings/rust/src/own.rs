@@ -13,36 +13,85 @@ use std::borrow::Cow;
 use std::cmp::Ordering;
 use std::fmt;
 
-/// Whether the text is a range as most are: `^`, `~` or nothing before one to three numbers of at most 15 digits and without leading zeros.
-/// Every grammar has it, and it is no tag.
+/// Whether the text is a range as most are: `^`, `~` or nothing before one to three plain numbers, and a plain qualifier behind three. Every
+/// grammar has it, and it is no tag.
 #[inline]
 pub(crate) fn is_plain_range(text: &str) -> bool {
     let partial = match text.as_bytes() {
         [b'^' | b'~', partial @ ..] | partial => partial,
     };
-    plain_numbers(partial).is_some()
+    plain_numbers(partial).is_some_and(|(_, count, rest)| rest.is_empty() || count == 3 && is_plain_qualifier(rest))
 }
 
-/// The three numbers of a version as most are: each has at most 15 digits and no leading zero, and no pre-release or build follows.
+/// The three numbers of a version as most are, and whether it has neither a pre-release nor a build: three plain numbers, and a plain
+/// qualifier or nothing. It is displayed as it is written.
 #[inline]
-pub(crate) fn plain_release(text: &str) -> Option<[u64; 3]> {
-    plain_numbers(text.as_bytes()).filter(|(_, count)| *count == 3).map(|(numbers, _)| numbers)
+pub(crate) fn plain_version(text: &str) -> Option<([u64; 3], bool)> {
+    let (numbers, count, rest) = plain_numbers(text.as_bytes())?;
+    (count == 3 && (rest.is_empty() || is_plain_qualifier(rest))).then_some((numbers, rest.is_empty()))
 }
 
-/// One to three such numbers with dots between them, and how many there are.
+/// Whether a version with a pre-release or a build, as displayed, has a pre-release.
 #[inline]
-fn plain_numbers(text: &[u8]) -> Option<([u64; 3], usize)> {
-    let (mut numbers, mut index, mut start) = ([0; 3], 0, 0);
+pub(crate) fn is_pre_release(displayed: &str) -> bool {
+    displayed.find(['-', '+']).is_some_and(|at| displayed[at..].starts_with('-'))
+}
+
+/// The numbers before each `-` in the canonical form of ranges, among them those of all bounds that are pre-releases. By npm's rule a range
+/// matches a pre-release only if a bound is a pre-release of the same numbers.
+pub(crate) fn numbers_of_pre_releases(normal: &str) -> Vec<[u64; 3]> {
+    let numbers = |(at, _)| {
+        let digits = normal[..at].rsplit(|c: char| !c.is_ascii_digit() && c != '.').next()?;
+        let mut numbers = digits.split('.').map(|number| number.parse().ok());
+        Some([numbers.next()??, numbers.next()??, numbers.next()??])
+    };
+    normal.match_indices('-').filter_map(numbers).collect()
+}
+
+/// One to three plain numbers with dots between them, how many there are, and what follows. A plain number has at most 15 digits and no
+/// leading zero.
+#[inline]
+fn plain_numbers(text: &[u8]) -> Option<([u64; 3], usize, &[u8])> {
+    let (mut numbers, mut index, mut start, mut end) = ([0; 3], 0, 0, text.len());
     for (at, byte) in text.iter().enumerate() {
         match byte {
             b'0'..=b'9' if at == start || at - start < 15 && text[start] != b'0' => {
                 numbers[index] = 10 * numbers[index] + u64::from(byte - b'0');
             }
             b'.' if at > start && index < 2 => (index, start) = (index + 1, at + 1),
-            _ => return None,
+            _ => {
+                end = at;
+                break;
+            }
         }
     }
-    (start < text.len()).then_some((numbers, index + 1))
+    (start < end).then_some((numbers, index + 1, &text[end..]))
+}
+
+/// Whether the text is a plain qualifier: `-` and identifiers, `+` and identifiers, or both.
+#[inline]
+fn is_plain_qualifier(text: &[u8]) -> bool {
+    match text {
+        [b'+', build @ ..] => are_identifiers(build),
+        [b'-', pre @ ..] => match pre.iter().position(|byte| *byte == b'+') {
+            Some(end) => are_identifiers(&pre[..end]) && are_identifiers(&pre[end + 1..]),
+            None => are_identifiers(pre),
+        },
+        _ => false,
+    }
+}
+
+/// Whether the text is identifiers of letters, digits and `-`, with dots between them.
+#[inline]
+fn are_identifiers(text: &[u8]) -> bool {
+    let mut last = b'.';
+    for &byte in text {
+        if !(byte.is_ascii_alphanumeric() || byte == b'-' || byte == b'.' && last != b'.') {
+            return false;
+        }
+        last = byte;
+    }
+    last != b'.'
 }
 
 /// The parts of a package with a requirement: a name, an optional requirement behind `@`, and a path behind `/`.
@@ -110,8 +159,8 @@ pub(crate) fn scope(name: &str) -> Option<&str> {
     name.starts_with('@').then(|| name.split_once('/').map_or(name, |(scope, _)| scope))
 }
 
-/// The name of the export that a path in a JSR package means.
-pub(crate) fn export_name(sub_path: Option<&str>) -> Cow<'_, str> {
+/// The export's name, such as `./mod.ts`, for a path in a JSR package; without a path it is `.`.
+pub fn normalized_export_name(sub_path: Option<&str>) -> Cow<'_, str> {
     let path = match sub_path {
         None | Some("" | "/" | ".") => return Cow::Borrowed("."),
         Some(path) => path.strip_suffix('/').unwrap_or(path),
@@ -174,7 +223,7 @@ impl Version {
         self.numbers().cmp(&other.numbers()).then_with(|| match (self.qualified(), other.qualified()) {
             (Some(one), Some(two)) => ordering(semver_version_compare(one.handle(), two.handle())),
             // A release is above its pre-releases.
-            _ => self.pre.is_empty().cmp(&other.pre.is_empty()),
+            _ => other.is_pre().cmp(&self.is_pre()),
         })
     }
 }
@@ -185,7 +234,7 @@ impl Ord for Version {
         self.numbers().cmp(&other.numbers()).then_with(|| match (self.qualified(), other.qualified()) {
             (Some(one), Some(two)) => ordering(semver_version_order(one.handle(), two.handle())),
             // A release is above its pre-releases, and below itself with a build.
-            (one, two) => self.pre.is_empty().cmp(&other.pre.is_empty()).then(one.is_some().cmp(&two.is_some())),
+            (one, two) => other.is_pre().cmp(&self.is_pre()).then(one.is_some().cmp(&two.is_some())),
         })
     }
 }
@@ -256,7 +305,7 @@ impl RangeBound {
 
     /// Whether the bound is a pre-release of the same three numbers as the version.
     pub fn has_pre_with_exact_major_minor_patch(&self, version: &Version) -> bool {
-        self.bound().is_some_and(|bound| !bound.version.pre.is_empty() && bound.version.numbers() == version.numbers())
+        self.bound().is_some_and(|bound| bound.version.is_pre() && bound.version.numbers() == version.numbers())
     }
 
     fn bound(&self) -> Option<&VersionBound> {
@@ -275,7 +324,7 @@ impl VersionRange {
 
     /// Whether the version matches, by npm's rule for pre-releases.
     pub fn satisfies(&self, version: &Version) -> bool {
-        let may_match = version.pre.is_empty()
+        let may_match = !version.is_pre()
             || self.start.has_pre_with_exact_major_minor_patch(version)
             || self.end.has_pre_with_exact_major_minor_patch(version);
         may_match && self.intersects_version(version)
@@ -370,14 +419,8 @@ fn write_from(start: &Version, end: &VersionBound, f: &mut fmt::Formatter<'_>) -
     if end.is_inclusive() && *start == end.version {
         return write!(f, "{start}");
     }
-    if !end.is_inclusive() {
-        match short_form(start, &end.version) {
-            Some(Short::Major) => return write!(f, "{}", start.major),
-            Some(Short::Minor) => return write!(f, "{}.{}", start.major, start.minor),
-            Some(Short::Tilde) => return write!(f, "~{start}"),
-            Some(Short::Caret) => return write!(f, "^{start}"),
-            None => {}
-        }
+    if let Some(form) = short_form(start, &end.version).filter(|_| !end.is_inclusive()) {
+        return f.write_str(&form);
     }
     if *start != Version::default() {
         write!(f, ">={start} ")?;
@@ -385,15 +428,8 @@ fn write_from(start: &Version, end: &VersionBound, f: &mut fmt::Formatter<'_>) -
     write_end(end, f)
 }
 
-enum Short {
-    Major,
-    Minor,
-    Tilde,
-    Caret,
-}
-
 // The short form of the range from a version to below another.
-fn short_form(start: &Version, end: &Version) -> Option<Short> {
+fn short_form(start: &Version, end: &Version) -> Option<String> {
     let below_major = start.major.checked_add(1).map(|major| [major, 0, 0]);
     let below_minor = start.minor.checked_add(1).map(|minor| [start.major, minor, 0]);
     let below_patch = start.patch.checked_add(1).map(|patch| [0, 0, patch]);
@@ -403,11 +439,11 @@ fn short_form(start: &Version, end: &Version) -> Option<Short> {
     let end = Some(end.numbers());
     let is_short = start.qualified().is_none() && start.patch == 0;
     if is_short && start.minor == 0 && end == below_major {
-        Some(Short::Major)
+        Some(start.major.to_string())
     } else if end == below_minor {
-        Some(if is_short { Short::Minor } else { Short::Tilde })
+        Some(if is_short { format!("{}.{}", start.major, start.minor) } else { format!("~{start}") })
     } else if (start.major, start.minor) == (0, 0) && end == below_patch || start.major > 0 && end == below_major {
-        Some(Short::Caret)
+        Some(format!("^{start}"))
     } else {
         None
     }

@@ -70,7 +70,7 @@ impl PackageReq {
         PackageReq::parse(Grammar::Normalized, text)
     }
 
-    fn parse(grammar: Grammar, text: &str) -> Result<PackageReq, PackageReqParseError> {
+    pub(crate) fn parse(grammar: Grammar, text: &str) -> Result<PackageReq, PackageReqParseError> {
         let source = match PackageReq::parse_with_path(grammar, text) {
             Ok((req, "")) => return Ok(req),
             _ if !text.starts_with('@') && text.contains('/') => PackageReqPartsParseError::MissingAtSymbol,
@@ -266,7 +266,7 @@ pub mod json {
 }
 
 /// What is wrong with the string of a package.
-#[derive(Clone, Debug, PartialEq, Eq)]
+#[derive(Clone, PartialEq, Eq)]
 pub enum PackageReqPartsParseError {
     /// The name is empty.
     NoPackageName,
@@ -310,7 +310,7 @@ impl PackageReqPartsParseError {
 }
 
 /// Why a string isn't a package with a requirement.
-#[derive(Clone, Debug, PartialEq, Eq)]
+#[derive(Clone, PartialEq, Eq)]
 pub struct PackageReqParseError {
     /// The string.
     pub text: String,
@@ -340,7 +340,7 @@ impl PackageReqParseError {
 }
 
 /// Why a string isn't a reference to a package.
-#[derive(Clone, Debug, PartialEq, Eq)]
+#[derive(Clone, PartialEq, Eq)]
 pub enum PackageReqReferenceParseError {
     /// The string doesn't begin with this scheme.
     NotExpectedScheme(PackageKind),
@@ -351,7 +351,7 @@ pub enum PackageReqReferenceParseError {
 }
 
 /// A reference whose package is invalid.
-#[derive(Clone, Debug, PartialEq, Eq)]
+#[derive(Clone, PartialEq, Eq)]
 pub struct PackageReqReferenceInvalidParseError {
     /// The string.
     pub specifier: String,
@@ -367,7 +367,7 @@ impl PackageReqReferenceInvalidParseError {
 }
 
 /// A reference whose version is in its path.
-#[derive(Clone, Debug, PartialEq, Eq)]
+#[derive(Clone, PartialEq, Eq)]
 pub struct PackageReqReferenceInvalidWithVersionParseError {
     /// The registry.
     pub kind: PackageKind,
@@ -417,7 +417,7 @@ errors! {
 macro_rules! version_error {
     ($(#[$doc:meta])* $name:ident, $line:literal) => {
         $(#[$doc])*
-        #[derive(Clone, Debug, PartialEq, Eq)]
+        #[derive(Clone, PartialEq, Eq)]
         pub struct $name {
             /// What is wrong, in one line.
             pub message: String,
@@ -440,12 +440,9 @@ version_error!(
     "Invalid package name and version reference"
 );
 
-/// Defines a reference of a registry, from the type of its parts. `$package` is the package among them.
-macro_rules! reference {
-    (
-        $(#[$doc:meta])* $name:ident, $kind:ident, $parts:ident, $(#[$parse_doc:meta])* $error:ident,
-        $(#[$package_doc:meta])* $package:ident: $type:ident
-    ) => {
+/// Defines references of a registry: each one's parts, the package among them, and the error of parsing it.
+macro_rules! references {
+    ($kind:ident: $($(#[$doc:meta])* $name:ident($parts:ident), $package:ident: $type:ident, $error:ident;)*) => {$(
         $(#[$doc])*
         pub struct $name(pub $crate::package::$parts);
 
@@ -460,13 +457,13 @@ macro_rules! reference {
                 $name::from_str(specifier.as_ref())
             }
 
-            $(#[$parse_doc])*
+            /// Parses a reference. A requirement in it has the strict grammar.
             #[allow(clippy::should_implement_trait)]
             pub fn from_str(specifier: &str) -> Result<$name, $crate::package::$error> {
                 $crate::package::$parts::parse(specifier, $crate::package::PackageKind::$kind).map($name)
             }
 
-            $(#[$package_doc])*
+            /// The package.
             pub fn $package(&self) -> &$crate::package::$type {
                 &self.0.$package
             }
@@ -483,39 +480,7 @@ macro_rules! reference {
         }
 
         $crate::error::display!($name: |it, f| write!(f, "{}{}", $crate::package::PackageKind::$kind.scheme_with_colon(), it.0););
-    };
+    )*};
 }
 
-/// Defines the two references of a registry.
-macro_rules! references {
-    ($(#[$req_doc:meta])* $req:ident, $(#[$nv_doc:meta])* $nv:ident, $kind:ident) => {
-        $crate::package::reference!(
-            $(#[$req_doc])*
-            #[derive(Clone, Debug, PartialEq, Eq, Hash)]
-            $req, $kind, PackageReqReference,
-            /// Parses a reference. Its requirement has the strict grammar.
-            PackageReqReferenceParseError,
-            /// The package with its requirement.
-            req: PackageReq
-        );
-        $crate::package::reference!(
-            $(#[$nv_doc])*
-            #[derive(Clone, Debug, PartialEq, Eq, PartialOrd, Ord, Hash)]
-            $nv, $kind, PackageNvReference,
-            /// Parses a reference.
-            PackageNvReferenceParseError,
-            /// The package with its version.
-            nv: PackageNv
-        );
-
-        #[cfg(feature = "url")]
-        impl $nv {
-            /// The reference as a URL.
-            pub fn as_specifier(&self) -> url::Url {
-                self.0.as_specifier($crate::package::PackageKind::$kind)
-            }
-        }
-    };
-}
-
-pub(crate) use {reference, references};
+pub(crate) use references;

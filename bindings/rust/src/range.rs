@@ -19,7 +19,7 @@ pub enum VersionBoundKind {
 
 /// A version at an end of a range.
 #[derive(Clone, Debug, PartialEq, Eq, Hash)]
-#[cfg_attr(feature = "serde", derive(serde::Serialize))]
+#[cfg_attr(feature = "serde", derive(serde::Serialize, serde::Deserialize))]
 pub struct VersionBound {
     /// Whether the version is in the range.
     pub kind: VersionBoundKind,
@@ -36,7 +36,7 @@ impl VersionBound {
 
 /// An end of a range.
 #[derive(Clone, Debug, PartialEq, Eq, Hash)]
-#[cfg_attr(feature = "serde", derive(serde::Serialize))]
+#[cfg_attr(feature = "serde", derive(serde::Serialize, serde::Deserialize))]
 pub enum RangeBound {
     /// The range ends at a version.
     Version(VersionBound),
@@ -63,7 +63,7 @@ impl RangeBound {
 
 /// The versions from a start to an end.
 #[derive(Clone, Debug, PartialEq, Eq, Hash)]
-#[cfg_attr(feature = "serde", derive(serde::Serialize))]
+#[cfg_attr(feature = "serde", derive(serde::Serialize, serde::Deserialize))]
 pub struct VersionRange {
     /// Where it starts.
     pub start: RangeBound,

@@ -4,6 +4,7 @@ use crate::calls::{failed, with_text, YES};
 use crate::externs::{semver_list_free, semver_req_free, semver_scans_free, semver_version_free};
 use crate::string::StackString;
 use std::ffi::c_void;
+use std::mem::ManuallyDrop;
 use std::ptr;
 
 /// Declares calls of the library, and makes each a safe function. It passes a slice or a `str` as a pointer and a length.
@@ -95,6 +96,14 @@ handle!(
     semver_scans_free
 );
 
+impl Requirement {
+    /// A copy of the handle, which doesn't free the value. It may be asked as long as this one is kept.
+    #[inline]
+    pub(crate) fn copy(&self) -> ManuallyDrop<Requirement> {
+        ManuallyDrop::new(Requirement { at: self.at })
+    }
+}
+
 /// How many bytes a short string has at most.
 pub(crate) const SHORT: usize = 22;
 
@@ -108,14 +117,6 @@ pub(crate) struct Short {
 
 impl Short {
     pub(crate) const EMPTY: Short = Short { len: 0, bytes: [0; SHORT] };
-
-    /// The string of a text, which panics if it is too long.
-    #[inline]
-    pub(crate) fn of(text: &str) -> Short {
-        let mut bytes = [0; SHORT];
-        bytes[..text.len()].copy_from_slice(text.as_bytes());
-        Short { len: text.len() as u8, bytes }
-    }
 
     /// The string of these parts, which panics if it would be too long.
     #[inline]

@@ -3,14 +3,11 @@
 use crate::jsr::{JsrDepPackageReq, JsrPackageNvReference};
 use crate::npm::NpmPackageNvReference;
 use crate::package::{PackageNv, PackageReq};
-use crate::{RangeBound, RangeSetOrTag, StackString, Version, VersionBound, VersionBoundKind, VersionRange, VersionReq};
-use serde::de::value::MapAccessDeserializer;
-use serde::de::{Error, IgnoredAny, MapAccess, Unexpected, Visitor};
-use serde::ser::SerializeStruct;
+use crate::{CowVec, RangeSetOrTag, StackString, Version, VersionReq};
+use serde::de::Error;
 use serde::{Deserialize, Deserializer, Serialize, Serializer};
 use std::borrow::Cow;
 use std::fmt;
-use std::marker::PhantomData;
 
 // An error with its causes, on one line.
 fn line(error: &dyn std::error::Error) -> String {
@@ -46,88 +43,33 @@ as_text! {
     StackString: to_string, |text: &str| Ok::<_, fmt::Error>(StackString::from_str(text));
 }
 
-/// Reads an object, and no array in its place.
-fn object<'de, T: Deserialize<'de>, D: Deserializer<'de>>(deserializer: D) -> Result<T, D::Error> {
-    struct Object<T>(PhantomData<T>);
-
-    impl<'de, T: Deserialize<'de>> Visitor<'de> for Object<T> {
-        type Value = T;
-
-        fn expecting(&self, f: &mut fmt::Formatter<'_>) -> fmt::Result {
-            f.write_str("an object")
-        }
-
-        fn visit_map<M: MapAccess<'de>>(self, map: M) -> Result<T, M::Error> {
-            T::deserialize(MapAccessDeserializer::new(map))
-        }
+impl<T: Serialize> Serialize for CowVec<T> {
+    fn serialize<S: Serializer>(&self, serializer: S) -> Result<S::Ok, S::Error> {
+        self[..].serialize(serializer)
     }
-
-    deserializer.deserialize_map(Object(PhantomData))
 }
 
-macro_rules! as_object {
-    ($($name:ident { $($field:ident: $type:ty),* } => $value:expr;)*) => {$(
-        impl<'de> Deserialize<'de> for $name {
-            fn deserialize<D: Deserializer<'de>>(deserializer: D) -> Result<$name, D::Error> {
-                #[derive(Deserialize)]
-                struct Fields {
-                    $($field: $type,)*
-                }
-
-                let Fields { $($field),* } = object(deserializer)?;
-                Ok($value)
-            }
-        }
-    )*};
+impl<'de, T: Deserialize<'de>> Deserialize<'de> for CowVec<T> {
+    fn deserialize<D: Deserializer<'de>>(deserializer: D) -> Result<CowVec<T>, D::Error> {
+        Vec::deserialize(deserializer).map(CowVec::from)
+    }
 }
 
-as_object! {
-    VersionReq { raw_text: StackString, inner: RangeSetOrTag } => VersionReq::from_raw_text_and_inner(raw_text, inner);
-    VersionRange { start: RangeBound, end: RangeBound } => VersionRange { start, end };
-    VersionBound { kind: VersionBoundKind, version: Version } => VersionBound { kind, version };
+/// The members of a requirement.
+#[derive(Serialize, Deserialize)]
+struct Members {
+    raw_text: StackString,
+    inner: RangeSetOrTag,
 }
 
 impl Serialize for VersionReq {
     fn serialize<S: Serializer>(&self, serializer: S) -> Result<S::Ok, S::Error> {
-        let mut object = serializer.serialize_struct("VersionReq", 2)?;
-        object.serialize_field("raw_text", self.version_text())?;
-        object.serialize_field("inner", self.inner())?;
-        object.end()
+        Members { raw_text: self.version_text().into(), inner: self.inner().clone() }.serialize(serializer)
     }
 }
 
-/// The string "Unbounded", or an object with the one key "Version".
-struct BoundVisitor;
-
-impl<'de> Visitor<'de> for BoundVisitor {
-    type Value = RangeBound;
-
-    fn expecting(&self, f: &mut fmt::Formatter<'_>) -> fmt::Result {
-        f.write_str("\"Unbounded\" or an object with the key \"Version\"")
-    }
-
-    fn visit_str<E: Error>(self, text: &str) -> Result<RangeBound, E> {
-        match text {
-            "Unbounded" => Ok(RangeBound::Unbounded),
-            _ => Err(E::invalid_value(Unexpected::Str(text), &self)),
-        }
-    }
-
-    fn visit_map<M: MapAccess<'de>>(self, mut map: M) -> Result<RangeBound, M::Error> {
-        let key: Option<Cow<'de, str>> = map.next_key()?;
-        if key.as_deref() != Some("Version") {
-            return Err(M::Error::custom("a bound has the key \"Version\""));
-        }
-        let bound = RangeBound::Version(map.next_value()?);
-        match map.next_key::<IgnoredAny>()? {
-            Some(_) => Err(M::Error::custom("a bound has one key")),
-            None => Ok(bound),
-        }
-    }
-}
-
-impl<'de> Deserialize<'de> for RangeBound {
-    fn deserialize<D: Deserializer<'de>>(deserializer: D) -> Result<RangeBound, D::Error> {
-        deserializer.deserialize_any(BoundVisitor)
+impl<'de> Deserialize<'de> for VersionReq {
+    fn deserialize<D: Deserializer<'de>>(deserializer: D) -> Result<VersionReq, D::Error> {
+        Members::deserialize(deserializer).map(|it| VersionReq::from_raw_text_and_inner(it.raw_text, it.inner))
     }
 }

@@ -1,6 +1,6 @@
 //! The step from a version to another.
 
-use crate::calls::{failed, with_text, NO, NO_INCREMENT, YES};
+use crate::calls::{code_and_text, failed, NO, NO_INCREMENT, YES};
 use crate::externs::{semver_coerce, semver_difference, semver_increment};
 use crate::Version;
 
@@ -51,7 +51,7 @@ pub enum Coerced {
 }
 
 /// Why there is no next version.
-#[derive(Clone, Debug, PartialEq, Eq)]
+#[derive(Clone, PartialEq, Eq)]
 pub struct IncrementError {
     /// What is wrong, in one line.
     pub message: String,
@@ -62,11 +62,11 @@ crate::error::errors! {
 }
 
 fn coerced(text: &str, which: Coerced, pre_releases: bool) -> Option<Version> {
-    with_text(|out, needed| semver_coerce(which as u32, text, pre_releases.into(), out, needed), |code, text| match code {
-        YES => Version::parse_valid(text),
-        NO => None,
-        _ => failed(code),
-    })
+    match code_and_text(|out, needed| semver_coerce(which as u32, text, pre_releases.into(), out, needed)) {
+        (YES, version) => Version::parse_valid(&version),
+        (NO, _) => None,
+        (code, _) => failed(code),
+    }
 }
 
 impl Version {
@@ -87,15 +87,13 @@ impl Version {
     /// ```
     pub fn increment(&self, release_type: ReleaseType, identifiers: &str, base: Base) -> Result<Version, IncrementError> {
         let text = self.to_string();
-        let next = with_text(
-            |out, needed| semver_increment(release_type as u32, &text, identifiers, base as u32, out, needed),
-            |code, text| match code {
-                YES => Ok(Version::parse_valid(text)),
-                NO_INCREMENT => Err(IncrementError { message: text.to_owned() }),
-                _ => failed(code),
-            },
-        )?;
-        Ok(next.expect("the text of a version is one"))
+        let call =
+            |out: &mut _, needed: &mut _| semver_increment(release_type as u32, &text, identifiers, base as u32, out, needed);
+        match code_and_text(call) {
+            (YES, next) => Ok(Version::parse_valid(&next).expect("the text of a version is one")),
+            (NO_INCREMENT, message) => Err(IncrementError { message }),
+            (code, _) => failed(code),
+        }
     }
 
     /// The version that a string holds: one to three numbers with a `.` between neighbours. A missing number is 0. None if no number in the

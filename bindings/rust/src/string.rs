@@ -38,7 +38,7 @@ impl StackString {
     #[allow(clippy::should_implement_trait)]
     #[inline]
     pub fn from_str(text: &str) -> StackString {
-        StackString(if text.len() <= SHORT { Text::Short(Short::of(text)) } else { Text::Long(text.into()) })
+        StackString(if text.len() <= SHORT { Text::Short(Short::concat(&[text])) } else { Text::Long(text.into()) })
     }
 
     #[inline]

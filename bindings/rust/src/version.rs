@@ -1,6 +1,6 @@
 //! Versions.
 
-use crate::calls::{answer, text_or_message, version_numbers, PreRelease};
+use crate::calls::{answer, failed, text_or_message, with_text, PreRelease, INVALID_VERSION, NO, YES};
 use crate::error::{display, parse_error, ParseErrorFailureError};
 use crate::externs::*;
 use crate::npm::NpmVersionParseError;
@@ -39,8 +39,9 @@ pub struct VersionParts {
 /// [`Version::from_parts`].
 ///
 /// `Eq`, `Hash` and `Ord` include the build: the order is by precedence, then by build. If a version has a pre-release or a build, the crate
-/// parses it into a handle of the C library when you first read its parts, display or hash it, ask for its sort key, compare it with another
-/// version of the same three numbers, or match it a second time. It does so once; all copies of the version share the handle.
+/// parses it into a handle of the C library when you first ask for its sort key, compare it with another such version of the same three
+/// numbers, or match it a second time with a range that has a pre-release of these. It does so once; all copies of the version share the
+/// handle.
 #[derive(Default)]
 pub struct Version {
     // The release of the three numbers. Its lists are empty, so there is nothing to drop.
@@ -51,46 +52,41 @@ pub struct Version {
 
 /// A version with a pre-release or a build.
 pub(crate) struct Qualified {
+    // As displayed.
     text: StackString,
-    // Whether it was matched. The first match is by its text, since many versions are matched once and dropped.
+    is_pre: bool,
+    // Whether it was matched. The first match is by its string, since many versions are matched once and dropped.
     was_matched: AtomicBool,
-    parsed: OnceLock<Parsed>,
-}
-
-/// What is made of its string when it is first needed.
-struct Parsed {
-    handle: VersionHandle,
-    displayed: StackString,
-    parts: VersionParts,
+    handle: OnceLock<VersionHandle>,
+    parts: OnceLock<VersionParts>,
 }
 
 impl Qualified {
     #[inline(never)]
-    fn of(text: &str) -> Arc<Qualified> {
-        Arc::new(Qualified { text: text.into(), was_matched: AtomicBool::new(false), parsed: OnceLock::new() })
-    }
-
-    fn parsed(&self) -> &Parsed {
-        self.parsed.get_or_init(|| {
-            let (handle, displayed) = VersionHandle::read(|it, out, needed| semver_version_read(&self.text, it, out, needed));
-            Parsed { handle, parts: own::version_parts(&displayed), displayed }
+    fn of(displayed: &str) -> Arc<Qualified> {
+        Arc::new(Qualified {
+            text: displayed.into(),
+            is_pre: own::is_pre_release(displayed),
+            was_matched: AtomicBool::new(false),
+            handle: OnceLock::new(),
+            parts: OnceLock::new(),
         })
     }
 
     pub(crate) fn handle(&self) -> &VersionHandle {
-        &self.parsed().handle
+        self.handle.get_or_init(|| VersionHandle::read(|it, out, needed| semver_version_read(&self.text, it, out, needed)).0)
     }
 
     /// How the version is displayed.
     pub(crate) fn as_str(&self) -> &str {
-        &self.parsed().displayed
+        &self.text
     }
 
-    fn is_matched_by(&self, req: &Requirement, pre_release: PreRelease) -> Option<bool> {
-        if self.parsed.get().is_none() && !self.was_matched.swap(true, AtomicOrdering::Relaxed) {
-            return answer(semver_req_fits(req, &self.text, pre_release as u32));
+    fn is_matched_by(&self, req: &Requirement, pre_release: PreRelease) -> i32 {
+        if self.handle.get().is_none() && !self.was_matched.swap(true, AtomicOrdering::Relaxed) {
+            return semver_req_fits(req, &self.text, pre_release as u32);
         }
-        answer(semver_req_matches(req, self.handle(), pre_release as u32))
+        semver_req_matches(req, self.handle(), pre_release as u32)
     }
 }
 
@@ -114,8 +110,23 @@ impl Version {
     /// The version, or none if the string isn't one.
     #[inline(always)]
     pub(crate) fn parse_valid(text: &str) -> Option<Version> {
-        let (numbers, is_release) = version_numbers(text)?;
-        Some(Version::of(numbers, (!is_release).then(|| Qualified::of(text))))
+        match own::plain_version(text) {
+            Some((numbers, is_release)) => Some(Version::of(numbers, (!is_release).then(|| Qualified::of(text)))),
+            None => Version::read(text),
+        }
+    }
+
+    /// The same, as the library parses it.
+    #[inline(never)]
+    fn read(text: &str) -> Option<Version> {
+        let mut numbers = [0; 3];
+        let qualified = match semver_version_numbers(text, &mut numbers, &mut 0) {
+            YES => None,
+            NO => Some(with_text(|out, needed| semver_version(text, out, needed), |_, displayed| Qualified::of(displayed))),
+            INVALID_VERSION => return None,
+            code => failed(code),
+        };
+        Some(Version::of(numbers, qualified))
     }
 
     #[inline(always)]
@@ -166,13 +177,21 @@ impl Version {
         self.qualified.as_deref()
     }
 
-    /// Whether a requirement matches this version; none if it is a tag.
+    /// Whether it has a pre-release.
     #[inline]
-    pub(crate) fn is_matched_by(&self, req: &Requirement, pre_release: PreRelease) -> Option<bool> {
-        match &self.qualified {
-            None => answer(semver_req_matches_release(req, self.release.major, self.release.minor, self.release.patch)),
-            Some(qualified) => qualified.is_matched_by(req, pre_release),
-        }
+    pub(crate) fn is_pre(&self) -> bool {
+        self.qualified().is_some_and(|it| it.is_pre)
+    }
+
+    /// Whether a requirement that isn't a tag matches this version.
+    #[inline]
+    pub(crate) fn is_matched_by(&self, req: &Requirement, pre_release: PreRelease) -> bool {
+        let [major, minor, patch] = self.numbers();
+        let code = match &self.qualified {
+            Some(qualified) if qualified.is_pre => qualified.is_matched_by(req, pre_release),
+            _ => semver_req_matches_release(req, major, minor, patch),
+        };
+        answer(code) == Some(true)
     }
 }
 
@@ -190,7 +209,7 @@ impl Deref for Version {
     fn deref(&self) -> &VersionParts {
         match &self.qualified {
             None => &self.release,
-            Some(qualified) => &qualified.parsed().parts,
+            Some(qualified) => qualified.parts.get_or_init(|| own::version_parts(&qualified.text)),
         }
     }
 }
@@ -217,7 +236,7 @@ display! {
         own::write_identifiers(&it.pre, &it.build, f)
     };
     Version: |it, f| match it.qualified() {
-        None => it.release.fmt(f),
+        None => own::write_numbers(it.numbers(), f),
         Some(qualified) => f.write_str(qualified.as_str()),
     };
 }

@@ -6,6 +6,7 @@ use crate::externs::*;
 use crate::json;
 use crate::lowest::{self, Lowest};
 use crate::npm::NpmVersionReqParseError;
+use crate::own;
 use crate::range::{RangeSetOrTag, VersionRangeSet};
 use crate::raw::{Requirement, Scans};
 use crate::scan::Scan;
@@ -14,6 +15,7 @@ use crate::version::Version;
 use std::cmp::Ordering;
 use std::fmt;
 use std::hash::{Hash, Hasher};
+use std::mem::ManuallyDrop;
 use std::ptr;
 use std::sync::{Arc, OnceLock};
 
@@ -37,28 +39,44 @@ struct Parsed {
     grammar: Grammar,
     // The canonical form, or the tag.
     normal: StackString,
+    // The numbers that a pre-release must have to match by npm's rule.
+    pre_releases: Vec<[u64; 3]>,
     inner: OnceLock<RangeSetOrTag>,
 }
 
 impl Parsed {
-    fn of(grammar: Grammar, text: StackString, inner: OnceLock<RangeSetOrTag>) -> Arc<Parsed> {
+    fn of(grammar: Grammar, text: StackString, inner: OnceLock<RangeSetOrTag>) -> Shared {
         let (handle, normal) = Requirement::read(|it, out, needed| semver_req_read(grammar as u32, &text, it, out, needed));
-        Arc::new(Parsed { handle, text, grammar, normal, inner })
+        let pre_releases = own::numbers_of_pre_releases(&normal);
+        Shared { handle: handle.copy(), parsed: Arc::new(Parsed { handle, text, grammar, normal, pre_releases, inner }) }
+    }
+}
+
+/// What copies share. The handle is a copy of that of `parsed`, and is found faster.
+struct Shared {
+    handle: ManuallyDrop<Requirement>,
+    parsed: Arc<Parsed>,
+}
+
+impl Clone for Shared {
+    #[inline]
+    fn clone(&self) -> Shared {
+        Shared { handle: self.handle.copy(), parsed: self.parsed.clone() }
     }
 }
 
 /// What is made when it is first needed, and shared by copies that are made later.
 enum Lazy {
-    Now(Arc<Parsed>),
-    Later(OnceLock<Arc<Parsed>>),
+    Now(Shared),
+    Later(OnceLock<Shared>),
 }
 
 impl Clone for Lazy {
     #[inline]
     fn clone(&self) -> Lazy {
         match self {
-            Lazy::Now(parsed) => Lazy::Now(parsed.clone()),
-            Lazy::Later(parsed) => parsed.get().map_or_else(|| Lazy::Later(OnceLock::new()), |parsed| Lazy::Now(parsed.clone())),
+            Lazy::Now(shared) => Lazy::Now(shared.clone()),
+            Lazy::Later(shared) => shared.get().map_or_else(|| Lazy::Later(OnceLock::new()), |shared| Lazy::Now(shared.clone())),
         }
     }
 }
@@ -146,8 +164,11 @@ impl VersionReq {
     /// If this is a tag.
     #[inline]
     pub fn matches_with(&self, version: &Version, pre_release: PreRelease) -> bool {
-        let is_match = version.is_matched_by(self.held(), pre_release);
-        is_match.unwrap_or_else(|| panic!("the requirement is the tag {self}"))
+        assert!(!self.is_tag, "the requirement is the tag {self}");
+        let Shared { handle, parsed } = self.shared();
+        let may_match =
+            !version.is_pre() || pre_release == PreRelease::Admitted || parsed.pre_releases.contains(&version.numbers());
+        may_match && version.is_matched_by(handle, pre_release)
     }
 
     // The answer of a call about this and a version.
@@ -210,16 +231,21 @@ impl VersionReq {
     }
 
     #[inline]
-    fn parsed(&self) -> &Parsed {
+    fn shared(&self) -> &Shared {
         match &self.parsed {
-            Lazy::Now(parsed) => parsed,
-            Lazy::Later(parsed) => parsed.get_or_init(|| Parsed::of(self.grammar, self.text.clone(), OnceLock::new())),
+            Lazy::Now(shared) => shared,
+            Lazy::Later(shared) => shared.get_or_init(|| Parsed::of(self.grammar, self.text.clone(), OnceLock::new())),
         }
     }
 
     #[inline]
+    fn parsed(&self) -> &Parsed {
+        &self.shared().parsed
+    }
+
+    #[inline]
     pub(crate) fn held(&self) -> &Requirement {
-        &self.parsed().handle
+        &self.shared().handle
     }
 }
 

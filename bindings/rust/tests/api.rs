@@ -10,8 +10,8 @@ use deno_semver_proved::package::{
     json, PackageKind, PackageNv, PackageReq, PackageReqPartsParseError, PackageReqReferenceParseError,
 };
 use deno_semver_proved::{
-    Grammar, ParseErrorFailureError, Place, PreRelease, RangeBound, RangeSetOrTag, StackString, Version, VersionBoundKind,
-    VersionParts, VersionRange, VersionRangeSet, VersionReq, WILDCARD_VERSION_REQ,
+    CowVec, Grammar, ParseErrorFailureError, Place, PreRelease, RangeBound, RangeSetOrTag, StackString, Version,
+    VersionBoundKind, VersionParts, VersionRange, VersionRangeSet, VersionReq, WILDCARD_VERSION_REQ,
 };
 use std::cmp::Ordering;
 use std::collections::{BTreeSet, HashMap, HashSet};
@@ -74,9 +74,9 @@ fn versions() {
     assert_eq!(Version::default(), version("0.0.0"));
     let long = format!("1.2.3-{}", "a.".repeat(200) + "b");
     assert_eq!((version(&long).to_string(), version(&long).pre.len()), (long.clone(), 201));
-    let parts = VersionParts { major: 1, pre: vec!["a.b".into()], ..VersionParts::default() };
+    let parts = VersionParts { major: 1, pre: ["a.b".into()].into(), ..VersionParts::default() };
     assert_eq!(Version::from_parts(parts).unwrap_err().to_string(), "Invalid version");
-    let parts = VersionParts { build: vec!["é".into()], ..VersionParts::default() };
+    let parts = VersionParts { build: ["é".into()].into(), ..VersionParts::default() };
     let error = Version::from_parts(parts).unwrap_err();
     assert_eq!((error.message().starts_with("An identifier of a version"), error.source.place()), (true, None));
     let sorted: BTreeSet<Version> = ["1.0.0", "1.0.0-a", "0.1.0"].map(version).into();
@@ -105,6 +105,29 @@ fn errors() {
     let error = PackageNv::from_str("name@1").unwrap_err();
     assert_eq!(error.message, "Missing minor version. Versions must be in the form MAJOR.MINOR.PATCH (ex. 1.0.0).");
     assert_eq!(lists::filter(Grammar::Npm, "!", [""; 0], PreRelease::Restricted).unwrap_err().place, 0);
+}
+
+// What a person sees of an error that `main` returns: the causes, the string, and a mark at the place where it goes wrong.
+#[test]
+fn errors_show_the_place() {
+    let version = format!("{:?}", parse_npm_version(" 1.0").unwrap_err());
+    let message = "Missing patch version. Versions must be in the form MAJOR.MINOR.PATCH (ex. 1.0.0).";
+    assert_eq!(version, format!("Invalid npm version: {message}\n   1.0\n      ^"));
+    let normalized = VersionReq::parse_from_normalized("1\t|| <é || 1..2").unwrap_err();
+    let line = "Invalid normalized version requirement: Unexpected character.";
+    assert_eq!(format!("{normalized:?}"), format!("{line}\n  1 || <é || 1..2\n        ^"));
+    let package: Box<dyn Error> = PackageReq::from_str("@a/é@^1..2").unwrap_err().into();
+    let line = "Invalid package requirement '@a/é@^1..2': Invalid specifier version requirement: Unexpected character.";
+    assert_eq!(format!("{package:?}"), format!("{line}\n  ^1..2\n     ^"));
+    let dependency = JsrDepPackageReq::from_str("npm:a@1/b").unwrap_err();
+    let line = "Invalid package requirement 'a@1/b': Packages in the format <scope>/<name> must start with an '@' symbol.";
+    assert_eq!(format!("{dependency:?}"), line);
+    // A long string is cut.
+    let text = format!("{}é!{}", "1 ".repeat(1000), " 2".repeat(1000));
+    let shown = format!("{:?}", VersionReq::parse_from_normalized(&text).unwrap_err());
+    let lines: Vec<&str> = shown.lines().collect();
+    assert!(lines.len() == 3 && lines[1].chars().count() == 102, "{shown}");
+    assert_eq!(lines[1].chars().nth(lines[2].len() - 1), Some('é'));
 }
 
 /// The place of an error, but for what is expected there.
@@ -258,7 +281,16 @@ fn version_text(seed: u32) -> String {
 // A release is its three numbers, which the crate compares, hashes and displays itself. The proved calls of texts must answer the same.
 #[test]
 fn versions_are_those_of_the_library() {
-    let ranges = ["^1", "~1.0", ">=1.0.0-a <2", "1.1.1 || >1.10.0-a.a", "<=0.9.0-1 || 18446744073709551615.0.x", "*"];
+    let ranges = [
+        "^1",
+        "~1.0",
+        ">=1.0.0-a <2",
+        "1.1.1 || >1.10.0-a.a",
+        "<=0.9.0-1 || 18446744073709551615.0.x",
+        "*",
+        "0.1 - 1.1",
+        "1.1.1+a-b || ^0.1",
+    ];
     for seed in 0..60_000 {
         let texts = [version_text(2 * seed), version_text(2 * seed + 1)];
         let (one, other) = (version(&texts[0]), version(&texts[1]));
@@ -282,27 +314,39 @@ fn versions_are_those_of_the_library() {
     }
 }
 
+/// Asks the crate and the library whether the text is a version, and whether it is a range or a tag.
+fn reads_as_the_library(text: &str) {
+    let parsed = [
+        (Grammar::Npm, VersionReq::parse_from_npm(text).ok()),
+        (Grammar::Normalized, VersionReq::parse_from_normalized(text).ok()),
+        (Grammar::Strict, VersionReq::parse_from_specifier(text).ok()),
+    ];
+    for (grammar, req) in parsed {
+        let is_tag = lists::best(grammar, text, [""; 0], PreRelease::Restricted).map(|best| best == Best::Tag);
+        assert_eq!(req.map(|req| req.tag().is_some()), is_tag.ok(), "{text}");
+    }
+    let json = json::name_with_version(&format!("a@{text}"));
+    let version = Version::parse_standard(text).ok();
+    assert_eq!(version.map(|it| format!(r#"{{"name":"a","scope":null,"version":"{it}"}}"#)), json.ok(), "{text}");
+}
+
 // The crate takes plain versions and ranges itself. The proved calls must answer the same.
 #[test]
 fn plain_texts_are_those_of_the_library() {
+    let starts = ["", "^", "~", "=", "^^", "v"];
     let numbers = ["0", "1", "10", "01", "999999999999999", "1000000000000000", "18446744073709551616", "x", "", "1-a"];
-    for (start, count) in ["", "^", "~", "=", "^^", "v"].into_iter().flat_map(|start| (0..5).map(move |count| (start, count))) {
+    for (start, count) in starts.into_iter().flat_map(|start| (0..5).map(move |count| (start, count))) {
         for choice in 0..10usize.pow(count) {
             let parts: Vec<&str> = (0..count).map(|n| numbers[choice / 10usize.pow(n) % 10]).collect();
-            let text = format!("{start}{}", parts.join("."));
-            let parsed = [
-                (Grammar::Npm, VersionReq::parse_from_npm(&text).ok()),
-                (Grammar::Normalized, VersionReq::parse_from_normalized(&text).ok()),
-                (Grammar::Strict, VersionReq::parse_from_specifier(&text).ok()),
-            ];
-            for (grammar, req) in parsed {
-                let is_tag = lists::best(grammar, &text, [""; 0], PreRelease::Restricted).map(|best| best == Best::Tag);
-                assert_eq!(req.map(|req| req.tag().is_some()), is_tag.ok(), "{text}");
-            }
-            let json = json::name_with_version(&format!("a@{text}"));
-            let version = Version::parse_standard(&text).ok();
-            assert_eq!(version.map(|it| format!(r#"{{"name":"a","scope":null,"version":"{it}"}}"#)), json.ok(), "{text}");
+            reads_as_the_library(&format!("{start}{}", parts.join(".")));
         }
+    }
+    let pieces = ["-", "-", "+", ".", ".", "a", "Z9", "0", "01", "1", "é", "*", " "];
+    for seed in 0..60_000 {
+        let mut next = random(seed);
+        let qualifier: String = (0..next(7)).map(|_| pieces[next(pieces.len())]).collect();
+        let (start, numbers) = (starts[next(3)], ["1.2.3", "1.2.3", "0.0.0", "1.2", "01.2.3"][next(5)]);
+        reads_as_the_library(&format!("{start}{numbers}{qualifier}"));
     }
 }
 
@@ -358,21 +402,26 @@ fn ranges_are_those_of_the_library() {
         let [one, other] = ranges.each_ref().map(comparators);
         let [one_req, other_req, both] =
             [one.clone(), other.clone(), format!("{one} {other}")].map(|text| VersionReq::parse_from_normalized(&text).unwrap());
-        assert_eq!(one_req.range(), Some(&VersionRangeSet(vec![ranges[0].clone()])), "{one}");
-        assert_eq!(both.range(), Some(&VersionRangeSet(vec![ranges[0].clamp(&ranges[1])])), "{one} {other}");
+        assert_eq!(one_req.range(), Some(&VersionRangeSet([ranges[0].clone()].into())), "{one}");
+        assert_eq!(both.range(), Some(&VersionRangeSet([ranges[0].clamp(&ranges[1])].into())), "{one} {other}");
         assert_eq!(one_req.intersects(&other_req), ranges[0].intersects_range(&ranges[1]), "{one}, {other}");
         assert_eq!(ranges[0].to_string(), one_req.to_string_normalized());
         assert_eq!(ranges[0].clamp(&ranges[1]).to_string(), both.to_string_normalized(), "{one} {other}");
-        let (texts, set) = (format!("{one} || {other}"), VersionRangeSet(ranges.to_vec()));
+        let (texts, set) = (format!("{one} || {other}"), VersionRangeSet(ranges.to_vec().into()));
         assert_eq!(lowest::normal(Grammar::Normalized, &texts), Ok(set.to_string()));
         let third = a_range(&mut next);
         let third_req = VersionReq::parse_from_normalized(&comparators(&third)).unwrap();
         let set_req = VersionReq::parse_from_normalized(&texts).unwrap();
-        assert_eq!(set_req.intersects(&third_req), set.intersects_set(&VersionRangeSet(vec![third.clone()])), "{texts}, {third}");
+        assert_eq!(
+            set_req.intersects(&third_req),
+            set.intersects_set(&VersionRangeSet([third.clone()].into())),
+            "{texts}, {third}"
+        );
         assert_eq!(set_req.intersects(&third_req), set_req.inner().intersects(third_req.inner()));
         let text = version_text(seed);
         let fits = |is_match| Ok(vec![if is_match { Fit::Yes } else { Fit::No }]);
-        let answer = fits(set.satisfies(&version(&text)));
+        let answer = fits(set_req.matches(&version(&text)));
+        assert_eq!(answer, fits(set.satisfies(&version(&text))), "{texts}, {text}");
         assert_eq!(lists::filter(Grammar::Normalized, &texts, [&text], PreRelease::Restricted), answer, "{texts}, {text}");
         let answer = fits(ranges[0].intersects_version(&version(&text)));
         assert_eq!(lists::filter(Grammar::Normalized, &one, [&text], PreRelease::Admitted), answer, "{one}, {text}");
@@ -442,12 +491,12 @@ fn ranges() {
         end: RangeBound::version(kind, version(end)),
     };
     let caret = from("1.2.3", VersionBoundKind::Exclusive, "2.0.0");
-    assert_eq!(npm("^1.2.3").range(), Some(&VersionRangeSet(vec![caret.clone()])));
+    assert_eq!(npm("^1.2.3").range(), Some(&VersionRangeSet([caret.clone()].into())));
     assert!(caret.satisfies(&version("1.3.0")) && !caret.satisfies(&version("1.3.0-a")));
     assert!(caret.intersects_range(&VersionRange::all()) && VersionRange::none().is_none());
     assert_eq!(caret.clamp(&from("1.0.0", VersionBoundKind::Inclusive, "1.5.0")).to_string(), ">=1.2.3 <=1.5.0");
-    assert_eq!(VersionRangeSet(Vec::new()).to_string(), "<0.0.0");
-    let req = VersionReq::from_raw_text_and_inner("mine".into(), RangeSetOrTag::RangeSet(VersionRangeSet(vec![caret])));
+    assert_eq!(VersionRangeSet(CowVec::new()).to_string(), "<0.0.0");
+    let req = VersionReq::from_raw_text_and_inner("mine".into(), RangeSetOrTag::RangeSet(VersionRangeSet([caret].into())));
     assert_eq!((req == npm("^1.2.3"), req.to_string()), (true, "mine".to_string()));
     // Builds are part of the canonical form, so bounds that differ in one aren't shortened.
     use VersionBoundKind::{Exclusive, Inclusive};
@@ -511,6 +560,19 @@ fn strings() {
     assert_eq!(size_of::<StackString>(), 24);
 }
 
+#[test]
+fn lists_share_their_items() {
+    let mut list = CowVec::from([1, 2]);
+    let copy = list.clone();
+    list.push(3);
+    assert_eq!((&list[..], &copy[..], format!("{list:?}").as_str()), (&[1, 2, 3][..], &[1, 2][..], "[1, 2, 3]"));
+    assert_eq!((list.into_iter().sum::<i32>(), (&copy).into_iter().count()), (6, 2));
+    let mut grown = CowVec::new();
+    assert_eq!((&grown, grown.is_empty()), (&CowVec::from(Vec::new()), true));
+    grown.push("a");
+    assert_eq!((grown, size_of::<CowVec<u8>>(), size_of::<Version>()), (CowVec::from(["a"]), 8, 48));
+}
+
 // What callers may do with each type, as with those of `deno_semver`.
 #[test]
 fn types_are_plain() {
@@ -521,6 +583,7 @@ fn types_are_plain() {
     is_plain::<NpmPackageNvReference>();
     is_plain::<VersionList>();
     is_plain::<StackString>();
+    is_plain::<CowVec<StackString>>();
 }
 
 static SHARED: LazyLock<VersionReq> = LazyLock::new(|| npm("^1.2 || >=3"));

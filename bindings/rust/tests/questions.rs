@@ -102,7 +102,11 @@ fn fits(req: &VersionReq, version: &Version, pre_release: PreRelease) -> String 
 
 /// Whether a version lies outside the requirement, which may be a tag.
 fn lies(req: &VersionReq, ask: impl FnOnce(&VersionReq) -> bool) -> String {
-    if req.tag().is_some() { "tag".to_string() } else { yes_or_no(ask(req)) }
+    if req.tag().is_some() {
+        "tag".to_string()
+    } else {
+        yes_or_no(ask(req))
+    }
 }
 
 fn filter(grammar: Grammar, requirement: &str, versions: &str, pre_release: PreRelease) -> Answers {
@@ -356,12 +360,12 @@ fn ask(question: &[&str]) -> Option<Answers> {
         ["fits", grammar, _, requirement, version] => {
             of_version(requirements(grammar, requirement), version, |req, version| fits(req, version, flag))
         }
-        ["above", grammar, _, requirement, version] => of_version(requirements(grammar, requirement), version, |req, version| {
-            lies(req, |req| version.is_above(req, flag))
-        }),
-        ["below", grammar, _, requirement, version] => of_version(requirements(grammar, requirement), version, |req, version| {
-            lies(req, |req| version.is_below(req, flag))
-        }),
+        ["above", grammar, _, requirement, version] => {
+            of_version(requirements(grammar, requirement), version, |req, version| lies(req, |req| version.is_above(req, flag)))
+        }
+        ["below", grammar, _, requirement, version] => {
+            of_version(requirements(grammar, requirement), version, |req, version| lies(req, |req| version.is_below(req, flag)))
+        }
         ["increment", kind, base, version, identifiers] => {
             let (kind, base) = (RELEASE_TYPES[place_of(kind, &KINDS)?], BASES[place_of(base, &["zero", "one", "nothing"])?]);
             versions(version).and_then(|all| {

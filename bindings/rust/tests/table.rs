@@ -360,8 +360,10 @@ fn ask(question: &[Option<String>]) -> Option<Answer> {
         ["reference", registry, text] => reference(registry, text),
         ["version-reference", registry, text] => version_reference(registry, text),
         ["export", _] => answer(&[&normalized_export_name(question[1].as_deref())]),
-        // A key that stands twice is an error here, as in `deno_semver`; in the table its last value counts.
+        // A key that stands twice is an error here, and an array is read in place of an object, as in `deno_semver`.
         ["json", "VersionRange", text] if text.matches("start").count() > 1 => None,
+        ["json", "VersionRange" | "VersionReq", text] if text.starts_with('[') => None,
+        ["json", "RangeBound", r#"{"Unbounded":null}"#] => None,
         ["json", name, text] => json(name, text),
         _ => ask_ranges(&fields),
     }
