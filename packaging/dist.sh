@@ -198,7 +198,7 @@ release() {
     if [ -n "$GATE" ]; then
         echo "The proofs and mutations (rt ci) ended with: $(cat out/gate)."
     else
-        echo 'THE PROOFS AND MUTATIONS (rt ci) WERE NOT RUN BEFORE IT.'
+        echo 'THE WHOLE GATE (rt ci, with all crates and mutations) WAS NOT RUN BEFORE IT.'
     fi
     case $ARCHES in *aarch64*)
         echo 'For arm64 the programs and the C library were proved once more; what is below them there is trusted: packaging/arm64, in C.'

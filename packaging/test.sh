@@ -313,14 +313,35 @@ try_packages() {
     for name in $(sed -n '/^\[\[test\]\]/{n;s/name = "\(.*\)"/\1/p}' bindings/rust/Cargo.toml); do
         [ -f "$root/deno_semver_proved-$version/tests/$name.rs" ] || fail "the Rust crate has no tests/$name.rs"
     done
-    if has cargo; then
-        mkdir -p "$root/user/src"
-        printf '[package]\nname = "user"\nversion = "0.1.0"\nedition = "2021"\n[dependencies]\ndeno_semver_proved = { path = "../deno_semver_proved-%s" }\n' "$version" >"$root/user/Cargo.toml"
-        printf 'fn main() { println!("{}", deno_semver_proved::npm::parse_npm_version_req(">=1.2 <2 || 3").unwrap().to_string_normalized()) }\n' >"$root/user/src/main.rs"
-        (cd "$root/user" && cargo build --offline --quiet)
-        expect '^1.2.0 || 3' "$root/user/target/debug/user"
-    fi
     try_javascript
+    follow 'A terminal' 1.10.0
+    follow Python "['1.10.0']"
+    if has npm && [ -e "$root/first/deno-semver-$version.tgz" ]; then follow JavaScript "[ '1.10.0' ]"; fi
+    if has cargo; then follow Rust true 'cargo init --quiet --name reader' "cp $root/main.rs src && cargo run --offline --quiet"; fi
+}
+
+# The blocks of this kind that README has under such a word, with the folder of the release.
+block() { # WORD KIND
+    awk -v word="**$1" -v kind="\`\`\`$2" '
+        index($0, "**") == 1 { within = index($0, word) == 1 }
+        $0 == "```" { inside = 0 }
+        within && inside
+        $0 == kind { inside = 1 }' README.md | sed "s|FOLDER|$root/first|"
+}
+
+# Follows README from an empty folder to a first answer, the last line that its commands print. What they install for all users goes into a
+# folder. BEFORE and AFTER are commands that README leaves to the reader.
+follow() { # WORD WANTED [BEFORE AFTER]
+    mkdir -p "$root/local" "$root/reader/$1"
+    block "$1" rust >"$root/main.rs"
+    {
+        echo 'set -e; sudo() { [ "$1" = ldconfig ] || "$@"; }'
+        echo "export PATH='$root/local/bin:$PATH' PIP_NO_INDEX=1 npm_config_offline=true; $3"
+        block "$1" sh | sed "s|/usr/local|$root/local|"
+        echo "$4"
+    } >"$root/lines"
+    got=$(cd "$root/reader/$1" && sh "$root/lines" 2>"$root/said" | tail -n 1)
+    [ "$got" = "$2" ] || fail "README's lines for $1: $got, and not $2: $(cat "$root/said")"
 }
 
 # A release without a semver.wasm that is up to date has no npm package and no page, and RELEASE says why.
