@@ -12,6 +12,7 @@ surrogateescape has it, `\\udcff` for 255. A row may also have
 
     files    an object of files by name, in a folder in which the program runs; each is a text, or an object of `text`, `mode`, and `owner`
              if another than the one who runs the program owns it, or of `link`, what a link names; a folder's name ends with `/`
+    in       the one of these folders in which the program runs instead
     after    what some of the files hold then, in the same form, and null for one that isn't there
     env      an object of variables for the environment
     tty      a list of `stdin`, `stdout` and `stderr`, each of which is a terminal of its own
@@ -74,7 +75,8 @@ NAMED = 1_000
 
 # What is printed of the range `1`, and of the line `^1..2`.
 ONE_EXPLAINED = (
-    '{"alternatives":[{"end":{"inclusive":false,"version":"2.0.0"},"lowest":"1.0.0","pre-releases":[],'
+    '{"alternatives":[{"comparators":[{"end":{"inclusive":false,"version":"2.0.0"},"start":{"inclusive":true,"version":"1.0.0"},'
+    '"text":"1"}],"end":{"inclusive":false,"version":"2.0.0"},"lowest":"1.0.0","pre-releases":[],'
     '"start":{"inclusive":true,"version":"1.0.0"},"text":"1"}],"canonical":"1"}\n'
 )
 ONE_CHECKED = '-:{}:4: error: "^1..2": not a version range\n  | ^1..2\n  |    ^ expected a number or a wildcard\n'
@@ -178,7 +180,8 @@ def run(program, row, seconds=60):
     given = as_bytes(row.get("stdin", ""))
     env = {name: held for name, held in os.environ.items() if name not in ("NO_COLOR", "TERM")} | row.get("env", {})
     with room_of(row.get("files")) as room:
-        words, options = [*COMMAND, str(program)], {"cwd": room, "env": env, "preexec_fn": prepare}
+        here = room and pathlib.Path(room) / row.get("in", "")
+        words, options = [*COMMAND, str(program)], {"cwd": here, "env": env, "preexec_fn": prepare}
         if os.geteuid() == 0 and any(isinstance(it, dict) for it in row.get("files", {}).values()):
             words[-1] = shutil.copy(program, room)
             for name, held in {".": {}, **row["files"]}.items():
