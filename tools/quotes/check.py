@@ -1,8 +1,8 @@
 #!/usr/bin/env python3
 """Compares what the pages for callers quote with the sources: each contract of a CALLING.md with the function that it names, clause
-by clause. And checks each example of these pages and of README, as a crate of its own over the built libraries. Run at the top of the
-project, after rt ci; the status is 1 where a quote differs, or leaves out a clause, or isn't there, or an example isn't proved, or
-docs/DEFINITIONS.md is stale."""
+by clause. And checks each example of these pages, as a crate of its own over the built libraries. Run at the top of the project, after rt ci;
+the status is 1 where a quote differs, or leaves out a clause, or isn't there, or an example isn't proved, or docs/DEFINITIONS.md is
+stale."""
 import importlib.util, pathlib, re, subprocess, sys, tempfile
 
 import definitions
@@ -10,7 +10,7 @@ import definitions
 TOP = pathlib.Path(__file__).resolve().parents[2]
 CRATES = ("semver_base", "semver_req", "deno_semver")
 # How many contracts and examples a page has.
-COUNTS = {"README.md": (0, 1)} | {f"crates/{crate}/CALLING.md": (count, 1) for crate, count in zip(CRATES, (46, 29, 29))}
+COUNTS = {f"crates/{crate}/CALLING.md": (count, 1) for crate, count in zip(CRATES, (46, 29, 29))}
 
 
 def plain(text):
