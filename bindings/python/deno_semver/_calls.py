@@ -6,7 +6,6 @@ import ctypes
 import json
 import os
 from ctypes import byref, c_size_t
-from pathlib import Path
 from typing import Any, Callable, Dict, NoReturn, Optional, Tuple, Type
 
 from ._errors import InvalidPackage, InvalidRange, InvalidVersion, SemverError, TagError
@@ -24,7 +23,7 @@ API = 1
 def _path() -> str:
     """The shared library: that of DENO_SEMVER_LIBRARY, or the one beside this file."""
     given = os.environ.get("DENO_SEMVER_LIBRARY")
-    return given or str(Path(__file__).with_name("libdeno_semver.so.0"))
+    return given or os.path.join(os.path.dirname(__file__), "libdeno_semver.so.0")
 
 
 def _load() -> Dict[str, Callable[..., int]]:
