@@ -114,6 +114,7 @@ python() {
     python3 -m venv "$out/environment"
     "$out/environment/bin/pip" install --quiet --no-index --disable-pip-version-check "$out"/wheel/*.whl
     (cd "$out" && environment/bin/python -m doctest "$here/python/README.md")
+    (cd "$out" && PYTHONPATH=$(echo environment/lib/python3*/site-packages) python3 "$here/python/speed.py" --brief >"$out/python-speed.log")
     rm -rf "$out/environment" # rt ci rejects links below the project
     echo "the wheel has $(cat "$out"/wheel/*.whl | wc -c) bytes, and is installed"
 }

@@ -3,7 +3,7 @@
 # packed package from CommonJS, ES modules and TypeScript, node-semver beside it, and the page in a browser. It prints a line for what it
 # leaves out, since the machine lacks it, and stops at the first failure.
 #
-# usage: test.sh [speed]; with speed it prints the times of calls, beside node-semver's where that is installed.
+# usage: test.sh [speed]; with speed it only prints the times of calls, beside node-semver's where that is installed.
 # OTHER_NODE is the path of another Node, of Node 18 for example, in which the tests run too, but for the time of an import.
 # NODE_SEMVER_SOURCE is a folder of node-semver's sources with its own tests, of Debian's by `apt-get source node-semver`.
 set -e
@@ -51,9 +51,9 @@ suite() {
 
 speed() {
     for folder in "$npm" "$debian"; do
-        [ -f "$folder/package.json" ] && { node "$here/speed.mjs" "$folder"; return; }
+        [ -f "$folder/package.json" ] && { node "$here/speed.mjs" "$@" "$folder"; return; }
     done
-    node "$here/speed.mjs"
+    node "$here/speed.mjs" "$@"
 }
 
 for tool in node wasm-opt; do
@@ -75,3 +75,4 @@ if [ -n "$OTHER_NODE" ]; then NODE_SEMVERS= "$OTHER_NODE" --expose-gc --test --t
 if has chromium; then node "$here/page/test.mjs"; else echo "JavaScript: no chromium, so the page isn't tried"; fi
 wait $first
 wait $second
+speed --brief >"$out/speed.log"

@@ -1,12 +1,21 @@
-"""The time of 100,000 versions from Python, beside other packages where they are installed. DENO_SEMVER_LIBRARY is the shared library."""
+"""The time of an import, and that of 100,000 versions, beside other packages where they are installed: speed.py [--brief]
+
+The status is 1 if an import takes longer than IMPORT milliseconds, or parsing longer than with another package, in each of three tries.
+With --brief nothing else is measured, and of fewer versions. DENO_SEMVER_LIBRARY is the shared library, by default the one in the package."""
 
 import functools
 import importlib
+import subprocess
+import sys
 import time
 
 import deno_semver as semver
 
-TEXTS = [f"{n % 7}.{n % 31}.{n % 101}" + (f"-rc.{n % 5}" if n % 3 == 0 else "") for n in range(100_000)]
+IS_BRIEF = "--brief" in sys.argv
+IMPORT = 40
+TRIES = 3
+COUNT = 10_000 if IS_BRIEF else 100_000
+TEXTS = [f"{n % 7}.{n % 31}.{n % 101}" + (f"-rc.{n % 5}" if n % 3 == 0 else "") for n in range(COUNT)]
 
 
 def fastest(ask, passes):
@@ -30,7 +39,7 @@ def parsers():
 
 
 def beside():
-    """Prints the times of each package, which are asked in turn."""
+    """The times of each package, which are asked in turn: of parsing a version, of its text, of its numbers, and of sorting, in µs."""
     times = {}
     for _ in range(5):
         for name, parse in parsers():
@@ -39,13 +48,33 @@ def beside():
             numbers, _ = fastest(lambda: [(it.major, it.minor) for it in versions], 1)
             ordered, _ = fastest(lambda: sorted(versions), 1)
             times.setdefault(name, []).append((parsed, shown, numbers, ordered))
-    for name, passes in times.items():
-        parsed, shown, numbers, ordered = (min(it) / 100 for it in zip(*passes))
+    return {name: [min(it) * 1e3 / COUNT for it in zip(*passes)] for name, passes in times.items()}
+
+
+def of_import():
+    """The milliseconds of an import in a fresh process."""
+    timed = "import time; start = time.perf_counter(); import deno_semver; print(time.perf_counter() - start)"
+    return min(float(subprocess.check_output([sys.executable, "-c", timed])) for _ in range(5)) * 1e3
+
+
+def bars():
+    """Prints these times, and returns what is too slow."""
+    times, imported = beside(), of_import()
+    for name, (parsed, shown, numbers, ordered) in times.items():
         print(f"{name}: parse {parsed:.2f}, str {shown:.2f}, the numbers {numbers:.2f}, sort {ordered:.2f} µs a version")
+    print(f"import {imported:.1f} ms")
+    ours, *others = (parsed for parsed, *_ in times.values())
+    return ["an import"] * (imported > IMPORT) + ["parsing"] * (ours > min(others, default=ours))
 
 
 def main():
-    beside()
+    slow = bars()
+    for _ in range(TRIES - 1):
+        slow = slow and bars()
+    if slow:
+        sys.exit(f"too slow: {', '.join(slow)}")
+    if IS_BRIEF:
+        return
     versions = [semver.Version(text) for text in TEXTS]
     for text in ("^1.2", ">=1.2 <2 || 3.x || ~5.6.7"):
         held = semver.Range(text)

@@ -2,7 +2,8 @@
 """Measures the calls beside those of the crate deno_semver: speed.py FOLDER [CARGO OPTION ..]
 
 FOLDER has the sources of deno_semver. Both programs are built from examples/speed.rs and run in turn, fifteen times; a line has the
-lowest time of each, in nanoseconds, and their ratio. OUT is the folder of what is built, by default bindings/out."""
+lowest time of each, in nanoseconds, and their ratio. The status is 1 if one is above 1. OUT is the folder of what is built, by default
+bindings/out."""
 import os
 import pathlib
 import subprocess
@@ -44,9 +45,13 @@ def main():
     programs = [build("ours", "deno_semver_proved", HERE, options), build("original", "deno_semver", original, options)]
     runs = [[times(program) for program in programs] for _ in range(15)]
     print(f"{'ours':>8} {'original':>8} {'ratio':>6}")
+    slow = []
     for name in runs[0][0]:
         ours, theirs = (min(run[n][name] for run in runs) for n in (0, 1))
         print(f"{ours:8.1f} {theirs:8.1f} {ours / theirs:6.2f}  {name}")
+        slow += [name] * (ours > theirs)
+    if slow:
+        sys.exit(f"slower than deno_semver: {', '.join(slow)}")
 
 
 if __name__ == "__main__":
