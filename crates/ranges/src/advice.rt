@@ -2,7 +2,7 @@
 
 use crate::rules::Rule;
 use answers::asking::{Answer, Problem};
-use answers::explained::{Matches, Meaning, Piece};
+use answers::explained::{Comparator, Matches, Meaning, Piece};
 use answers::questions::version_outside;
 use deno_semver::{PreRelease, RangeBound, Version, VersionBound, VersionBoundKind, VersionRange};
 use semver_req::common::values::Flavour;
@@ -16,8 +16,40 @@ const MANY: usize = 32;
 pub const EMPTY_AT_END: &str =
     "node-semver reads the empty part behind the last `||` as every version";
 
+/// What node-semver makes of separators that Deno takes.
+pub const SEPARATORS: &str = "node-semver refuses `,` and `&&`: write a space";
+
+/// Whether a range has such separators.
+pub fn has_separators(range: &str) -> bool {
+    range.contains(',') || range.contains("&&")
+}
+
+// Whether a word is a version with a wildcard in place of its third number, and a pre-release behind that.
+fn is_wildcard_with_pre(word: &str) -> bool {
+    let mut last = word.split('.').nth(2).unwrap_or("").chars();
+    matches!(last.next(), Some('x' | 'X' | '*')) && !matches!(last.next(), None | Some('+'))
+}
+
+fn is_pre(bound: &RangeBound) -> bool {
+    match bound {
+        RangeBound::Version(bound) => !bound.version.pre.is_empty(),
+        RangeBound::Unbounded => false,
+    }
+}
+
+/// Whether npm drops a pre-release of the comparator, and Deno keeps it, as in `^1.2.x-beta`.
+pub fn has_dropped_pre(comparator: &Comparator) -> bool {
+    let range = &comparator.range;
+    let mut words = comparator.text.as_str().split_whitespace();
+    (is_pre(&range.start) || is_pre(&range.end)) && words.any(is_wildcard_with_pre)
+}
+
 /// How node-semver, and so npm, reads parts of a range that it reads differently.
-pub fn differences(alloc: Global, range: &str) -> Result<Vec<String>, AllocError> {
+pub fn differences(
+    alloc: Global,
+    range: &str,
+    pieces: &[Piece],
+) -> Result<Vec<String>, AllocError> {
     let mut all = Vec::new(alloc);
     if range.trim_end().ends_with("||") {
         all.push(String::from_str(alloc, EMPTY_AT_END)?)?;
@@ -27,6 +59,12 @@ pub fn differences(alloc: Global, range: &str) -> Result<Vec<String>, AllocError
     }
     if let Some(number) = number_behind_zero(range) {
         all.push(format!(in alloc; "node-semver refuses the zero of `{number}`, or drops it")?)?;
+    }
+    for piece in pieces {
+        if let Some(dropped) = piece.comparators.iter().find(|it| has_dropped_pre(it)) {
+            let text = dropped.text.as_str();
+            all.push(format!(in alloc; "npm drops the pre-release of `{text}`")?)?;
+        }
     }
     Ok(all)
 }

@@ -1,6 +1,9 @@
 //! `ranges check`: the ranges of package.json, deno.json, import maps and lists of ranges.
 
-use crate::advice::{EMPTY_AT_END, bound_of_pre_releases, differences, has_match, warnings};
+use crate::advice::{
+    EMPTY_AT_END, SEPARATORS, bound_of_pre_releases, differences, has_match, has_separators,
+    warnings,
+};
 use crate::errors::{errors_at_end, errors_of};
 use crate::explaining::has_left_out;
 use crate::findings::{Cause, Finding, Format, Position, Report};
@@ -202,18 +205,14 @@ fn warn<O: Write, E: Write>(
         report_left_out(console, report, entry, range, true)?;
     }
     if entry.kind != Kind::Specifier {
-        for difference in differences(alloc, range)?.iter() {
+        for difference in differences(alloc, range, pieces)?.iter() {
             let finding = Finding::by(Rule::NpmDiffers, difference.as_str());
             report.add(console, entry, finding)?;
         }
     }
-    if entry.kind != Kind::Dependency && (range.contains(',') || range.contains("&&")) {
-        let message = "node-semver refuses `,` and `&&`: write a space";
-        report.add(
-            console,
-            entry,
-            Finding::by(Rule::IgnoredComparator, message),
-        )?;
+    if entry.kind != Kind::Dependency && has_separators(range) {
+        let finding = Finding::by(Rule::IgnoredComparator, SEPARATORS);
+        report.add(console, entry, finding)?;
     }
     if entry.kind != Kind::Specifier {
         warn_of_hyphen(console, report, entry, range)?;

@@ -1,6 +1,6 @@
 //! `ranges explain`: what a range means.
 
-use crate::advice::differences;
+use crate::advice::{SEPARATORS, differences, has_separators};
 use crate::comparing::{Line, print_json, print_tag, reject_line};
 use answers::explained::{Explanation, Matches, Meaning, Piece, explain};
 use answers::explained_json::ranges_explained;
@@ -173,7 +173,10 @@ fn report_pieces<O: Write, E: Write>(
         }
         print_line(&mut console.out, format_args!("canonical form: {normal}"))?;
         if options.flavour == Flavour::Npm {
-            for difference in differences(alloc, text)?.iter() {
+            if has_separators(text) {
+                print_line(&mut console.out, format_args!("note: {SEPARATORS}"))?;
+            }
+            for difference in differences(alloc, text, pieces)?.iter() {
                 print_line(
                     &mut console.out,
                     format_args!("note: {}", Shown(difference.as_str())),

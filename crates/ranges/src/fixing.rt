@@ -1,6 +1,6 @@
 //! `ranges check --fix`: what ranges are rewritten to, and how files are written.
 
-use crate::advice::contained;
+use crate::advice::{contained, has_dropped_pre};
 use crate::diff::print_diff;
 use crate::known::entries_of;
 use crate::relative::paths_in_diff;
@@ -187,7 +187,8 @@ fn are_alike(pieces: &[Piece]) -> bool {
     pieces.iter().all(|piece| match &piece.meaning {
         Meaning::Range(matches) => {
             let has_several = piece.text.as_str().split_whitespace().count() > 1;
-            matches.lowest.is_some() && (!has_several || has_same_end(matches))
+            let is_whole = !piece.comparators.iter().any(has_dropped_pre);
+            is_whole && matches.lowest.is_some() && (!has_several || has_same_end(matches))
         }
         Meaning::LeftOut(_) => false,
     })
@@ -277,7 +278,7 @@ fn better(
     };
     let text = text.as_str();
     let is_corrected = text != spaced.as_str();
-    if is_corrected && !is_found(levels, kind, range) {
+    if is_corrected && (text.trim().is_empty() || !is_found(levels, kind, range)) {
         return Ok(None);
     }
     // Deno has no version below 0.0.0, and npm has pre-releases of it.

@@ -289,6 +289,11 @@ impl Known {
         if is_match(alloc, range, version)? {
             return Ok(None);
         }
+        // npm takes a workspace of its own by its name.
+        let who = match self.workspace {
+            Workspace::Package => "pnpm and Yarn refuse it",
+            _ => who,
+        };
         let message = format!(in alloc; "{who}: its version in the workspace is {version}")?;
         Ok(Some(message))
     }

@@ -177,6 +177,19 @@ pub fn path_in_repository<R: Files + AllocGlobal>(rt: &R, path: &str) -> io::Res
     Ok(String::from_str(alloc, whole.as_str().trim_start_matches('/'))?)
 }
 
+// A value of git's settings, without the quotes around it and a comment behind it.
+fn without_quotes(value: &str) -> &str {
+    let value = value.trim();
+    match value.strip_prefix('"') {
+        Some(quoted) => quoted.split('"').next().unwrap_or(""),
+        None => value
+            .split(['#', ';'].as_slice())
+            .next()
+            .unwrap_or("")
+            .trim_end(),
+    }
+}
+
 // The value of core.excludesFile in a file of git's settings.
 fn excludes_setting(settings: &str) -> Option<&str> {
     let mut is_core = false;
@@ -188,7 +201,7 @@ fn excludes_setting(settings: &str) -> Option<&str> {
             && let Some((name, value)) = line.split_once('=')
             && name.trim().eq_ignore_ascii_case("excludesfile")
         {
-            last = Some(value.trim().trim_matches('"'));
+            last = Some(without_quotes(value));
         }
     }
     last
@@ -1173,7 +1186,7 @@ pub fn find<R: Runtime + AllocGlobal, O: Write, E: Write>(
         if !found.above.is_empty() && excludes.is_empty() {
             add_siblings(rt, console, &mut found)?;
         }
-        all.status = with_something(console, ".", &found, status);
+        all.status = with_something(console, ".", &found, status, NONE_HERE);
         all.groups.push(found)?;
     }
     for file in files.unwrap_or(&[]) {
@@ -1181,7 +1194,7 @@ pub fn find<R: Runtime + AllocGlobal, O: Write, E: Write>(
         if *file != "-" && is_folder(rt, file)? {
             let mut status = Status::Answered;
             found = manifests_in(rt, console, file, excluded(alloc, excludes)?, &mut status)?;
-            let status = with_something(console, file, &found, status);
+            let status = with_something(console, file, &found, status, NONE_BELOW);
             all.status = all.status.worse(status);
             let paths = found.paths.as_slice();
             found.above = manifests_above(rt, console, file, paths, &mut roots)?;
@@ -1288,17 +1301,24 @@ fn without_repeated<R: Files + AllocGlobal>(
     Ok(all)
 }
 
+// What is said of this folder, where nothing is named.
+const NONE_HERE: &str =
+    "no package.json, deno.json, import_map.json or pnpm-workspace.yaml in this folder; to look below it too, name it: `.`";
+
+// What is said of a folder that is named.
+const NONE_BELOW: &str =
+    "no package.json, deno.json, import_map.json or pnpm-workspace.yaml in or below this folder, apart from what git ignores";
+
 // Reports that a folder has no manifests, if nothing was found and all of it was read.
 fn with_something<O: Write, E: Write>(
     console: &mut Console<O, E>,
     folder: &str,
     found: &Group,
     status: Status,
+    message: &'static str,
 ) -> Status {
     if !found.paths.is_empty() || status != Status::Answered {
         return status;
     }
-    let message =
-        "no package.json, deno.json, import_map.json or pnpm-workspace.yaml in this folder";
     console.complain(Shown(folder), message)
 }
