@@ -6,5 +6,6 @@ pub mod Lowest
 pub mod Numbers
 pub mod Orders
 pub mod Runs
+pub mod Stretches
 pub mod Whole
 pub mod Written

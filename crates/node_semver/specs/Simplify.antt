@@ -1,6 +1,6 @@
 -- The ranges in which a list matches. Source: node-semver's documentation of `simplifyRange`: a range that matches the same of a list of
 -- versions. Each stretch of neighbours that match is one range, from the first of them to the last.
-use Rattle.std.specs.Prelude.{◌+◌, ◌-◌, ◌==◌, ◌∷◌, ℕ, Bool, true, false, List, [], Option, Some, None, if◌then◌else◌, length, map}
+use Rattle.std.specs.Prelude.{◌≡◌, ◌≤◌, ◌<◌, ◌⊎◌, ◌↔◌, ◌+◌, ◌-◌, ◌==◌, ◌∷◌, ℕ, Bool, true, false, List, [], Option, Some, None, if◌then◌else◌, length, map}
 use Rattle.std.specs.List.{slice_get}
 use Rattle.semver_base.specs.Intervals.{with_pre}
 use Rattle.semver_base.specs.declared.range.RangeBound.{RangeBound}
@@ -33,3 +33,23 @@ range_of versions stretch = record {
 -- the ranges of the stretches that pass a test
 abbrev pub ranges_of : (Version → Bool) → List Version → List VersionRange
 ranges_of test versions = map (range_of versions) (stretches 0 None (map test versions))
+
+-- ---- what stretches are
+
+-- a place is in one of them
+abbrev pub IsInSome : ℕ → List (ℕ × ℕ) → Type 0
+IsInSome place [] = ⊥
+IsInSome place (stretch ∷ others) = ((stretch.0 ≤ place) × (place < stretch.1)) ⊎ IsInSome place others
+
+-- they stand in their order from a place on, none is empty, and a place lies between two of them
+abbrev pub AreApart : ℕ → List (ℕ × ℕ) → Type 0
+AreApart from [] = Unit {0}
+AreApart from (stretch ∷ others) = (from ≤ stretch.0) × (stretch.0 < stretch.1) × AreApart (stretch.1 + 1) others
+
+-- the places in stretches are those that match, and each stretch is as long as it can be
+pub record HoldsMatches (answers : List Bool) (all : List (ℕ × ℕ)) : Type 0 where
+  pub matches : (place : ℕ) → IsInSome place all ↔ (slice_get answers place ≡ Some true)
+  pub apart : AreApart 0 all
+
+abbrev pub StretchesHoldMatches : Type 0
+StretchesHoldMatches = (answers : List Bool) → HoldsMatches answers (stretches 0 None answers)

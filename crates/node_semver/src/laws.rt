@@ -1,6 +1,7 @@
-//! Laws of versions that come next, each as the contract of a call, which does nothing: a caller cites what it ensures.
+//! Laws of versions that come next and of stretches, each as the contract of a call, which does nothing: a caller cites what it ensures.
 
 ghost use Rattle.node_semver.specs.NextVersions.{IncrementsAreAbove, IncrementsReadBack, NextMajorsAreLowest, NextMinorsAreLowest, NextPatchesAreLowest};
+ghost use Rattle.node_semver.specs.Simplify.{StretchesHoldMatches};
 
 use semver_base::laws::version_texts_read_back;
 
@@ -23,3 +24,8 @@ pub fn increments_read_back()
 {
     version_texts_read_back();
 }
+
+/// The stretches of a list hold the places of the versions that match, and no others, and each is as long as it can be.
+pub fn stretches_hold_matches()
+    ensures { StretchesHoldMatches }
+{}
