@@ -92,7 +92,9 @@ from_first answers place (inr m) = let same : place ≡ m.0 = omega (arith, m.1)
 
 pub stretches_hold_matches : StretchesHoldMatches
 stretches_hold_matches answers = record {
-  matches = λ place. (λ h. from_first answers place (matches_there answers None 0 place (omega arith) h),
-      λ h. is_there answers None 0 place (omega arith) (inr (place, omega arith, h)));
+  matches = λ place. (
+    λ h. from_first answers place (matches_there answers None 0 place (omega arith) h),
+    λ h. is_there answers None 0 place (omega arith) (inr (place, omega arith, h)),
+  );
   apart = apart answers None 0 0 (omega arith);
 }
