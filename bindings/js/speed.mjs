@@ -2,8 +2,9 @@
 //
 //     node speed.mjs [--brief] [NODE_SEMVER]
 //
-// A time is the best of five runs, in which both are asked in turn. The status is 1 where a call takes longer than node-semver's, or longer
-// than its limit, in each of three tries. With --brief it is asked less often.
+// A time is the best of five runs, in which both are asked in turn. The status is 1 where a call takes longer than node-semver's in each of
+// three tries, or finding the place of an error longer than PARSES parses of a valid range of that length. With --brief each is asked less
+// often.
 
 import { createRequire } from 'node:module';
 import { performance } from 'node:perf_hooks';
@@ -17,8 +18,7 @@ const RUNS = 5;
 const TRIES = 3;
 const CALLS = isBrief ? 10_000 : 200_000;
 const LIST = isBrief ? 10_000 : 100_000;
-/** How many milliseconds the place of an error in 80 KB may take. */
-const PLACE = 50;
+const PARSES = 6;
 const other = folder && createRequire(import.meta.url)(folder);
 const version = folder && createRequire(import.meta.url)(`${folder}/package.json`).version;
 
@@ -46,14 +46,14 @@ function print(name, here, there = '') {
 
 const shown = (time, unit, digits) => (time === undefined ? undefined : `${time.toFixed(digits)} ${unit}`);
 
-/** Prints the milliseconds that `measured` returns, of which the second, or the limit, must not be less than the first. */
-function row(name, measured, show, limit = Infinity) {
-  const isSlow = ([here, there = Infinity]) => here > Math.min(there, limit);
+/** Prints the milliseconds that `measured` returns, of which the first must be at most so many times the second. */
+function row(name, measured, show, most = 1) {
+  const isSlow = ([here, there = Infinity]) => here > there * most;
   let times = measured();
   for (let tries = 1; tries < TRIES && isSlow(times); tries++) times = measured();
   print(name, ...times.map((time) => time && show(time)));
   if (!isSlow(times)) return;
-  console.error(`${name}: slower than ${limit < Infinity ? `${limit} ms` : "node-semver's"}`);
+  console.error(`${name}: too slow`);
   process.exitCode = 1;
 }
 
@@ -66,8 +66,8 @@ function each(name, here, there) {
 }
 
 /** Prints the milliseconds of a call here and there. */
-function once(name, here, there, limit) {
-  row(name, () => best([here, there]), (time) => shown(time, 'ms', 1), limit);
+function once(name, here, there, most) {
+  row(name, () => best([here, there]), (time) => shown(time, 'ms', 1), most);
 }
 
 /** The sum of the numbers, so that each is asked. */
@@ -79,6 +79,15 @@ function fails(call) {
     return false;
   } catch {
     return true;
+  }
+}
+
+/** Where the mistake of a range begins. */
+function startIn(text) {
+  try {
+    return new semver.Range(text);
+  } catch (error) {
+    return error.start;
   }
 }
 
@@ -120,9 +129,11 @@ each('the numbers of a text', (i) => numbers(new semver.Version(item(i))), there
 both(each, 'an invalid range, satisfies', (library, i) => library.satisfies(item(i), invalid(i)));
 each('an invalid range, thrown', (i) => fails(() => semver.matches(invalid(i), '1.0.0')), there((i) => fails(() => new other.Range(invalid(i)))));
 both(each, 'new Range', (library, i) => new library.Range(`^1.${i}.0`));
-once('an error in 80 KB, new Range', () => fails(() => new semver.Range(`${'x '.repeat(40_000)}!`)), undefined, PLACE);
 both(each, 'subset', (library, i) => library.subset(`^1.${i % 100}.0`, RANGE));
 once(`filter ${LIST} versions`, () => semver.filter(RANGE, long), there(() => long.filter((it) => others.test(it))));
 once(`filter a held list of ${LIST}`, () => list.filter(range));
 both(once, `maxSatisfying of ${LIST}`, (library) => library.maxSatisfying(long, RANGE));
 both(once, `sort ${LIST}`, (library) => library.sort([...long]));
+const comparators = 'x '.repeat(40_000);
+console.log("\nThe place of an error in 80 KB, and the parse of a valid range of that length:");
+once("`x x .. !`", () => startIn(`${comparators}!`), () => startIn(`${comparators}x`), PARSES);
