@@ -5,7 +5,7 @@ use crate::catalogs::{Catalogs, resolved, shelve};
 use crate::findings::Position;
 use crate::fixing::range_of_specifier;
 use crate::known::is_own;
-use crate::walking::{Group, Manifests, find, read_file};
+use crate::walking::{Group, Manifests, find, read_file, without_mark};
 use answers::asking::Problem;
 use answers::object::Object;
 use answers::questions::text_of_version;
@@ -394,8 +394,7 @@ fn add_manifest<R: Runtime + AllocGlobal, O: Write, E: Write>(
         Err(Stop::Ended(unread)) => return Ok(unread),
         Err(stop) => return Err(stop),
     };
-    let text = text.as_str();
-    let text = text.strip_prefix('\u{feff}').unwrap_or(text);
+    let text = without_mark(text.as_str());
     let entries = entries(console.alloc, path, text)?;
     let status = complain_of(console, path, text, entries.as_slice());
     let path = String::from_str(console.alloc, path)?;

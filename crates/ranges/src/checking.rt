@@ -13,7 +13,9 @@ use crate::fixing::{
 use crate::known::{Known, Manager, is_of_npm, is_own, known_of, linked_by};
 use crate::overriding::Overrides;
 use crate::rules::{Level, Levels, Rule};
-use crate::walking::{Group, Manifests, add_roots, find, path_in_repository, read_file};
+use crate::walking::{
+    Group, Manifests, add_roots, find, path_in_repository, read_file, without_mark,
+};
 use answers::asking::{Answer, Problem};
 use answers::explained::{Explanation, Meaning, Piece, explain};
 use answers::questions::{common_version, displayed};
@@ -1076,8 +1078,7 @@ fn check_text<O: Write, E: Write>(
     group: &mut Report<'_>,
     file: Checked<'_>,
 ) -> Result<Status, Stop> {
-    // Some programs begin UTF-8 with a byte order mark.
-    let text = file.text.strip_prefix('\u{feff}').unwrap_or(file.text);
+    let text = without_mark(file.text);
     let entries = entries(console.alloc, file.path, text)?;
     let mut report = Report {
         file: file.shown,

@@ -5,7 +5,7 @@ use crate::diff::print_diff;
 use crate::known::entries_of;
 use crate::relative::paths_in_diff;
 use crate::rules::{Level, Levels, Rule};
-use crate::walking::{Group, read_file};
+use crate::walking::{Group, read_file, without_mark};
 use answers::asking::Problem;
 use answers::explained::{Explanation, Matches, Meaning, Piece, explain};
 use answers::reading;
@@ -332,13 +332,7 @@ pub fn set_above<R: Files + AllocGlobal>(
     group: &Group,
 ) -> Result<(), Stop> {
     for path in group.above.iter() {
-        let path = path.as_str();
-        let text = match fs::read_to_string(rt, path) {
-            Ok(text) => text,
-            Err(error) if error.kind() == ErrorKind::OutOfMemory => return Err(Stop::OutOfMemory),
-            Err(_) => continue,
-        };
-        let entries = entries(rt.alloc(), path, text.as_str())?;
+        let entries = entries_of(rt, path.as_str())?;
         set_levels(rt.alloc(), levels, entries.as_slice())?;
     }
     Ok(())
@@ -450,7 +444,7 @@ fn with_fixes(
 ) -> Result<Rewritten, Stop> {
     // Places count from behind the byte order mark.
     let file = old.as_str();
-    let text = file.strip_prefix('\u{feff}').unwrap_or(file);
+    let text = without_mark(file);
     let mark = file.len().saturating_sub(text.len());
     let mut edit = Edit {
         text,
@@ -780,8 +774,7 @@ pub fn rewrite<R: Input + Files + AllocGlobal, O: Write, E: Write>(
     for (place, path) in group.paths.iter().enumerate() {
         let path = path.as_str();
         let old = read_file(rt, console, path)?;
-        let text = old.as_str();
-        let entries = entries(alloc, path, text.strip_prefix('\u{feff}').unwrap_or(text))?;
+        let entries = entries(alloc, path, without_mark(old.as_str()))?;
         let mut levels = shared;
         set_levels(alloc, &mut levels, entries.as_slice())?;
         if place < group.own {

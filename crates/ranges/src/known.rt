@@ -1,7 +1,7 @@
 //! What the files of a workspace say of one another: the names and versions of its packages, and pnpm's catalogs.
 
 use crate::catalogs::{Catalogs, catalog_name, shelve, text_in};
-use crate::walking::{Group, members_of, split_path};
+use crate::walking::{Group, members_of, split_path, without_mark};
 use answers::asking::{Answer, Problem};
 use answers::questions::matches;
 use deno_semver::PreRelease;
@@ -314,7 +314,7 @@ pub fn is_own(text: &str) -> bool {
 /// The entries of a file; none if it can't be read.
 pub fn entries_of<R: Files + AllocGlobal>(rt: &R, path: &str) -> Result<Vec<Entry>, Stop> {
     match fs::read_to_string(rt, path) {
-        Ok(text) => Ok(entries(rt.alloc(), path, text.as_str())?),
+        Ok(text) => Ok(entries(rt.alloc(), path, without_mark(text.as_str()))?),
         Err(error) if error.kind() == ErrorKind::OutOfMemory => Err(Stop::OutOfMemory),
         Err(_) => Ok(Vec::new(rt.alloc())),
     }

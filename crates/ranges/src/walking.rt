@@ -1,6 +1,7 @@
 //! The manifests of folders and of workspaces, and the files of arguments.
 
 use crate::findings::Position;
+use crate::known::entries_of;
 use answers::asking::Problem;
 use answers::reading;
 use patterns::ignored::{Ignored, is_ignored};
@@ -14,7 +15,6 @@ use std::io::{BufRead, ErrorKind, Read, Write};
 use std::rt::{Files, Runtime};
 use std::{env, fs, io, str};
 use terminal::console::{Console, Status, Stop};
-use terminal::manifest::entries;
 use terminal::sections::Kind;
 use terminal::shown::{Quoted, Shown};
 
@@ -578,13 +578,8 @@ fn add_workspaces<R: Runtime + AllocGlobal, O: Write, E: Write>(
     workspaces: &mut Vec<Workspace>,
 ) -> Result<Status, Stop> {
     let alloc = console.alloc;
-    let text = match fs::read_to_string(rt, path) {
-        Ok(text) => text,
-        Err(error) if error.kind() == ErrorKind::OutOfMemory => return Err(Stop::OutOfMemory),
-        Err(_) => return Ok(Status::Answered),
-    };
     let mut status = Status::Answered;
-    let entries = entries(alloc, path, text.as_str())?;
+    let entries = entries_of(rt, path)?;
     let first = workspaces.len();
     let is_of_npm = path.ends_with("package.json");
     for entry in entries.iter().filter(|entry| entry.kind == Kind::Workspace) {
@@ -1028,12 +1023,7 @@ fn is_of_deno(path: &str) -> bool {
 // The path of the import map that Deno's manifest names, unless that is a URL.
 fn import_map_of<R: Runtime + AllocGlobal>(rt: &R, path: &str) -> Result<Option<String>, Stop> {
     let alloc = rt.alloc();
-    let text = match fs::read_to_string(rt, path) {
-        Ok(text) => text,
-        Err(error) if error.kind() == ErrorKind::OutOfMemory => return Err(Stop::OutOfMemory),
-        Err(_) => return Ok(None),
-    };
-    let entries = entries(alloc, path, text.as_str())?;
+    let entries = entries_of(rt, path)?;
     let Some(entry) = entries.iter().find(|entry| entry.kind == Kind::ImportMap) else {
         return Ok(None);
     };
@@ -1122,6 +1112,11 @@ fn complain_of_byte<R: Files + AllocGlobal, O: Write, E: Write>(
     let mut position = Position::START;
     position.move_to(text, text.len());
     Ok(console.complain(format_args!("{}:{position}", Shown(file)), reason))
+}
+
+/// A text without the byte order mark with which some programs begin UTF-8.
+pub fn without_mark(text: &str) -> &str {
+    text.strip_prefix('\u{feff}').unwrap_or(text)
 }
 
 /// Reads a file, or standard input for `-`; what is wrong with the file itself is reported on standard error.
@@ -1307,7 +1302,7 @@ const NONE_HERE: &str =
 
 // What is said of a folder that is named.
 const NONE_BELOW: &str =
-    "no package.json, deno.json, import_map.json or pnpm-workspace.yaml in or below this folder, apart from what git ignores";
+    "no package.json, deno.json, import_map.json or pnpm-workspace.yaml in or below this folder, apart from what is ignored";
 
 // Reports that a folder has no manifests, if nothing was found and all of it was read.
 fn with_something<O: Write, E: Write>(
