@@ -6,6 +6,9 @@ import {
 
 const GRAMMARS = new Map([['npm', 0], ['normalized', 1], ['strict', 2]]);
 
+/** The method by which Node shows a value. */
+export const INSPECT = Symbol.for('nodejs.util.inspect.custom');
+
 /** An invalid text. Where it goes wrong takes longer to find than all else, and is found once it's asked. */
 class InvalidTextError extends SyntaxError {
   #find;
@@ -32,6 +35,11 @@ class InvalidTextError extends SyntaxError {
 
   get expected() {
     return this.#place.expected;
+  }
+
+  [INSPECT](depth, options, inspect) {
+    const { start, end, expected } = this;
+    return `${this.stack} ${inspect({ ...this, start, end, expected }, options)}`;
   }
 }
 
@@ -163,9 +171,6 @@ export function kindOf(value) {
 // What a `Version` and a `Range` of any copy of this package say of themselves.
 export const VERSION_TEXT = Symbol.for('deno-semver.version');
 export const RANGE_PARTS = Symbol.for('deno-semver.range');
-
-/** The method by which Node shows a value. */
-export const INSPECT = Symbol.for('nodejs.util.inspect.custom');
 
 /** The text of a version that is a text or a `Version`. */
 export function versionText(version, name) {

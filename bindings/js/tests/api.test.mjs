@@ -325,6 +325,9 @@ for (const [kind, semver] of [['ES modules', modules], ['CommonJS', common]]) {
 
   test(`${kind}: Node shows a value`, () => {
     assert.equal(inspect([new Version('v1.2.3-a+b'), new Range('^1.2')]), '[ Version <1.2.3-a+b>, Range <^1.2> ]');
+    const shown = inspect(attempt(() => new Range('^1.2.3.4')));
+    assert.match(shown, /^RangeSyntaxError: Unexpected character\.\n +at /);
+    assert.match(shown, /\{\s+text: '\^1\.2\.3\.4',\s+start: 6,\s+end: 8,\s+expected: \[.*'end'\s+\]\s+\}$/s);
   });
 
   test(`${kind}: using frees a value`, { skip: !Symbol.dispose && 'the host has no using' }, () => {
