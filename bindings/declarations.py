@@ -71,7 +71,7 @@ RESULTS = {"i32": ("int32_t", "c_int32"), "u32": ("uint32_t", "c_uint32"), "": (
 LEFT_OUT = ("is_tag", "range_order", "ranges", "why")
 # Calls that no Rust asks for. rustc warns of others that nothing uses.
 NOT_IN_RUST = (
-    "api", "common", "compare", "explain", "export_name", "fits", "intersects", "package_read", "req_is_tag",
+    "api", "common", "compare", "export_name", "fits", "intersects", "package_read", "req_is_tag",
     "req_normal", "req_text", "version_parts", "version_text", "why",
 )
 

@@ -28,6 +28,7 @@ calls! {
     fn semver_reference_errors(text: &str, out: &mut [u8], needed: &mut usize) -> i32;
     fn semver_version_numbers(version: &str, numbers: &mut [u64], needed: &mut usize) -> i32;
     fn semver_ranges(grammar: u32, range: &str, out: &mut [u8], needed: &mut usize) -> i32;
+    fn semver_explain(grammar: u32, range: &str, pre_releases: u32, out: &mut [u8], needed: &mut usize) -> i32;
     fn semver_errors(grammar: u32, range: &str, out: &mut [u8], needed: &mut usize) -> i32;
     fn semver_version_error(version: &str, place: &mut usize) -> i32;
     fn semver_name_with_version(text: &str, out: &mut [u8], needed: &mut usize) -> i32;

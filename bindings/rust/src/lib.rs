@@ -20,6 +20,7 @@
 mod calls;
 mod cow_vec;
 mod error;
+pub mod explain;
 #[allow(unsafe_code)] // where `raw::calls` expands
 mod externs;
 mod json;

@@ -1,6 +1,7 @@
 //! Asks each question of the flat table QUESTIONS (flatten.py) by every call of the crate that it concerns. It fails where an answer
 //! differs or a block of the library is still alive at the end.
 
+use deno_semver_proved::explain::{explain, Alternative, Comparator, LeftOut, PreReleases};
 use deno_semver_proved::jsr::normalized_export_name;
 use deno_semver_proved::lists::{self, Best, Fit, Simplified, VersionList};
 use deno_semver_proved::lowest::{self, Lowest};
@@ -273,17 +274,69 @@ fn version_numbers(version: &Version) -> String {
     format!("{code}{US}{}{US}{}{US}{}", version.major, version.minor, version.patch)
 }
 
-/// The error of a range, as JSON. The crate has no call for those of alternatives that are left out, and of tags.
-fn range_error(name: &str, text: &str) -> Option<Answers> {
+/// Texts as a JSON array.
+fn texts(texts: &[String]) -> String {
+    format!("[{}]", texts.iter().map(|text| text_json(text)).collect::<Vec<_>>().join(","))
+}
+
+/// A text as JSON.
+fn text_json(text: &str) -> String {
+    format!("{text:?}")
+}
+
+fn error_json(message: &str, Place { start, end, expected }: &Place) -> String {
+    format!(r#"{{"end":{end},"expected":{},"message":"{message}","start":{start}}}"#, texts(expected))
+}
+
+/// The errors of a range, as JSON: its own, or those of the alternatives that are left out. The crate has no call for those of tags.
+fn range_errors(name: &str, text: &str) -> Option<Answers> {
     let error = match name {
-        "npm" => VersionReq::parse_from_npm(text).err()?.source,
-        "normalized" => VersionReq::parse_from_normalized(text).err()?.source,
-        _ => VersionReq::parse_from_specifier(text).err()?.source,
+        "npm" => VersionReq::parse_from_npm(text).err().map(|e| e.source),
+        "normalized" => VersionReq::parse_from_normalized(text).err().map(|e| e.source),
+        _ => VersionReq::parse_from_specifier(text).err().map(|e| e.source),
     };
-    let Place { start, end, expected } = error.place().expect("the place is known");
-    let expected = expected.iter().map(|text| format!("{text:?}")).collect::<Vec<_>>().join(",");
-    let json = format!(r#"[{{"end":{end},"expected":[{expected}],"message":"{}","start":{start}}}]"#, error.message);
-    Some(answer(&["yes", &json]))
+    let errors: Vec<String> = match error {
+        Some(error) => vec![error_json(&error.message, &error.place().expect("the place is known"))],
+        None => {
+            let explanation = explain(grammar(name), text, PreRelease::Restricted).expect("the range is valid")?;
+            let left_out = explanation.alternatives.into_iter().filter_map(|it| it.meaning.err());
+            left_out.map(|LeftOut { message, place }| error_json(&message, &place)).collect()
+        }
+    };
+    Some(answer(&["yes", &format!("[{}]", errors.join(","))]))
+}
+
+fn comparator_json(Comparator { text, range }: &Comparator) -> String {
+    format!(r#"{{"end":{},"start":{},"text":{}}}"#, bound(&range.end), bound(&range.start), text_json(text))
+}
+
+fn alternative_json(Alternative { text, meaning }: &Alternative) -> String {
+    let text = text_json(text);
+    let meaning = match meaning {
+        Ok(meaning) => meaning,
+        Err(LeftOut { message, place }) => return format!(r#"{{"error":{},"text":{text}}}"#, error_json(message, place)),
+    };
+    let comparators: Vec<_> = meaning.comparators.iter().map(comparator_json).collect();
+    let lowest = meaning.lowest.as_ref().map_or("null".to_string(), |text| text_json(text));
+    let pre_releases = match &meaning.pre_releases {
+        PreReleases::All => "\"all\"".to_string(),
+        PreReleases::Of(numbers) => texts(numbers),
+    };
+    let (end, start) = (bound(&meaning.range.end), bound(&meaning.range.start));
+    let comparators = comparators.join(",");
+    format!(
+        r#"{{"comparators":[{comparators}],"end":{end},"lowest":{lowest},"pre-releases":{pre_releases},"start":{start},"text":{text}}}"#
+    )
+}
+
+/// What a range means, as JSON.
+fn explained(name: &str, range: &str, pre_release: PreRelease) -> Answers {
+    let Some(explanation) = explain(grammar(name), range, pre_release).map_err(invalid_range)? else {
+        return answer(&["tag"]);
+    };
+    let alternatives: Vec<_> = explanation.alternatives.iter().map(alternative_json).collect();
+    let canonical = text_json(&explanation.canonical);
+    answer(&["yes", &format!(r#"{{"alternatives":[{}],"normal":{canonical}}}"#, alternatives.join(","))])
 }
 
 /// Where a text stops being a version.
@@ -340,6 +393,7 @@ fn ask_lists(question: &[&str]) -> Option<Answers> {
             lowest_version("yes", "no", lowest::common_version(grammar(name), ranges.lines(), flag))
         }
         ["equivalent", name, _, one, other] => equivalent(lowest::equivalent(grammar(name), one, other, flag)),
+        ["explain", name, _, range] => explained(name, range, flag),
         ["min_version", name, _, range] => {
             let lowest = lowest::min_version(grammar(name), range, flag);
             let held = requirements(name, range).ok().map(|reqs| reqs[0].min_version(flag));
@@ -400,7 +454,7 @@ fn ask(question: &[&str]) -> Option<Answers> {
         ["version", text] => versions(text).and_then(|all| written(all, Version::to_string)),
         ["key", text] => versions(text).and_then(|all| written(all, Version::sort_key)),
         ["scans", grammar, _, text] => requirements(grammar, text).and_then(|all| each(all, |req| scans(req, flag))),
-        ["errors", name, text] => return range_error(name, text),
+        ["errors", name, text] => return range_errors(name, text),
         ["version_error", text] => version_error(text),
         ["version_numbers", text] => versions(text).and_then(|all| each(all, version_numbers)),
         ["version_parts", text] => versions(text).and_then(|all| each(all, version_parts)),
@@ -428,7 +482,7 @@ fn wanted(call: &str, answer: &str) -> String {
             [code @ ("invalid range" | "invalid version"), message, _],
         ) => [*code, *message].join(US),
         // These have a place even if there is one range alone.
-        ("min_version" | "filter", ["invalid range", message]) => ["invalid range", *message, "0"].join(US),
+        ("explain" | "filter" | "min_version", ["invalid range", message]) => ["invalid range", *message, "0"].join(US),
         _ => answer.to_string(),
     }
 }
