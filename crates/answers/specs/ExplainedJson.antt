@@ -69,12 +69,12 @@ abbrev pub lowest_json : Option Version → Data
 lowest_json (Some v) = string (version_text v)
 lowest_json None = null
 
--- a comparator: the bounds of its range, and its text
+-- a comparator: the bounds of its range, and its text without the whitespace around it
 abbrev pub comparator_json : List ℕ × VersionRange → Data
 comparator_json c =
     object (member (codes "end") (bound_json c.1.end)
     (member (codes "start") (bound_json c.1.start)
-    (member (codes "text") (string c.0) no_members)))
+    (member (codes "text") (string (trim c.0)) no_members)))
 
 abbrev pub comparators_json : List (List ℕ × VersionRange) → Data
 comparators_json comparators = array (items_of (map comparator_json comparators))

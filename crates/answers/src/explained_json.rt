@@ -97,10 +97,11 @@ fn comparators_json(alloc: Global, comparators: &[Comparator]) -> Result<Value, 
 {
     let mut items = Vec::new(alloc);
     for comparator in comparators {
+        let text = comparator.text.as_str().trim();
         let json = Object::new(alloc)
             .put("end", bound_json(alloc, &comparator.range.end))
             .put("start", bound_json(alloc, &comparator.range.start))
-            .put_text("text", Some(comparator.text.as_str()))
+            .put_text("text", Some(text))
             .into_json();
         items.push(json?)?;
     }

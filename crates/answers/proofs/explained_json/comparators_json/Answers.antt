@@ -1,4 +1,5 @@
 use Rattle.std.proofs.Common.{◌≡◌, ◌∙◌, ◌++◌, ◌∷◌, [], IfOk, ap, map, refl, rules, string_bytes, sym, take}
+use Rattle.std.specs.Str.{trim}
 use Rattle.std.proofs.lemmas.List.{map-append, take_all, take_more}
 use Rattle.serde_json.specs.Data.{array}
 use Rattle.serde_json.specs.View.{items_of, view}
@@ -11,7 +12,7 @@ pub loop-comparator-preserved : goal.loop-comparator-preserved
 loop-comparator-preserved c =
     let l = c.loop-comparator in
     let comparator = c.comparator-item.result in
-    let text : c.as_str.result.now ≡ string_bytes comparator.text = search rules in
+    let text : c.trim-text.result.now ≡ trim (string_bytes comparator.text) = search rules in
     let is : IfOk c.into_json-json.result (λ json. view json ≡ comparator_json (shown comparator)) =
     rw text at (c.into_json-json.ensures _ (c.put_text.ensures _ (c.put-in-loop-comparator.ensures _ _ (c.put.ensures _ _ c.new.ensures c.bound_json.ensures) c.bound_json-in-loop-comparator.ensures))) in
     let json : view c.in_ok-json.field-0 ≡ comparator_json (shown comparator) = rw c.in_ok-json.was at is in
