@@ -243,6 +243,16 @@ pub struct Mistake {
     pub message: &'static str,
 }
 
+// The lines that git writes around the two sides of a conflict begin so.
+const CONFLICT: [&str; 3] = ["<<<<<<<", "=======", ">>>>>>>"];
+
+// Whether one of these lines begins at an index.
+fn is_conflict(text: &str, index: usize) -> bool {
+    let (before, rest) = text.split_at_checked(index).unwrap_or((text, ""));
+    let begins_line = before.is_empty() || before.ends_with('\n');
+    begins_line && CONFLICT.iter().any(|marker| rest.starts_with(*marker))
+}
+
 /// The first mistake in a text; none if it is JSON.
 pub fn mistake_in(alloc: Global, text: &str) -> Result<Option<Mistake>, AllocError> {
     let mut taken = Taken {
@@ -254,7 +264,11 @@ pub fn mistake_in(alloc: Global, text: &str) -> Result<Option<Mistake>, AllocErr
     for (at, c) in text.char_indices() {
         index = at;
         if !taken.step(c)? {
-            let message = taken.reason(c);
+            let message = if is_conflict(text, at) {
+                "not valid JSON: a merge conflict isn't resolved"
+            } else {
+                taken.reason(c)
+            };
             return Ok(Some(Mistake { index, message }));
         }
     }
