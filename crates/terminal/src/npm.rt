@@ -126,6 +126,12 @@ pub fn name_and_range(text: &str) -> (&str, &str) {
     (name, range.strip_prefix('@').unwrap_or(range))
 }
 
+/// Whether the text is the name of a package in a scope and, behind its `@`, a range or a tag.
+pub fn is_scoped_with_range(text: &str) -> bool {
+    let (name, range) = name_and_range(text);
+    name.starts_with('@') && is_package_name(name) && !range.is_empty() && !range.contains('/')
+}
+
 /// The indexes at which the names with their ranges end in a key of overrides, between which this text stands. pnpm's `a@>1` has none at the
 /// `>`.
 pub fn ends_in_key(alloc: Global, key: &str, separator: &str) -> Result<Vec<usize>, AllocError> {
@@ -368,6 +374,9 @@ pub fn source_of(text: &str) -> Source<'_> {
     }
     if is_archive(text) {
         return Source::Elsewhere;
+    }
+    if is_scoped_with_range(text) {
+        return Source::Odd("npm reads it as a folder: leave the package's name out");
     }
     match text.split_once('/') {
         None => Source::Registry(text),
