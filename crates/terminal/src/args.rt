@@ -216,7 +216,7 @@ const SARIF: Argument = Argument {
 const FIX: Argument = Argument {
     name: "fix",
     form: Form::Flag(None, &[]),
-    help: "Rewrite ranges to their canonical form, and correct mistakes that have one correction",
+    help: "Correct mistakes that have one correction; with --rule not-canonical=warn, also rewrite ranges to their canonical form",
 };
 
 const DRY_RUN: Argument = Argument {
@@ -336,6 +336,12 @@ const FOLDER: Argument = Argument {
     help: "A folder with manifests; without one, this folder and its workspaces",
 };
 
+const NAMED: Argument = Argument {
+    name: "package",
+    form: Form::Values("NAME"),
+    help: "Print only this package, even if one manifest alone asks for it",
+};
+
 const PACKAGE: Argument = Argument {
     name: "TEXT",
     form: Form::Text(true),
@@ -402,11 +408,13 @@ Examples:
   ranges check --rule any-zero=off --rule no-match=error packages
   ranges check --strict --canonical packages/*/package.json
   ranges check --fix --dry-run
+  ranges check --fix --rule not-canonical=warn
   ranges check --exclude fixtures --files .
 
 Rules: any-zero, contained-alternative, disjoint-sections, dropped-alternative, duplicate-key, empty-alternative,
-ignored-comparator, no-match, npm-differs, odd-engine, odd-path, odd-section, odd-tag, odd-version, unmatched-workspace. These are
-off unless you set them: meta-without-range, not-canonical, pre-release-bound. A rule at the level warn prints a warning.
+ignored-comparator, no-match, npm-differs, odd-engine, odd-path, odd-section, odd-tag, odd-version, other-version,
+unmatched-workspace. These are off unless you set them: meta-without-range, not-canonical, pre-release-bound. A rule at the level
+warn prints a warning.
 
 Exit status: 0 no error; 1 an error, or with --strict a warning, or --dry-run prints a change; 2 unknown arguments;
 3 a file can't be read or written; 5 out of memory; 6 output can't be written. Only other commands end with 4.",
@@ -414,10 +422,11 @@ Exit status: 0 no error; 1 an error, or with --strict a warning, or --dry-run pr
     Entry {
         name: "asked",
         about: "Print what several manifests ask of the same packages",
-        arguments: &[JSON, PRE, EXCLUDE, QUIET, FOLDER],
+        arguments: &[JSON, PRE, EXCLUDE, QUIET, FOLDER, NAMED],
         examples: "\
 Examples:
   ranges asked
+  ranges asked --package react --package react-dom
   ranges asked --json packages",
     },
 ];
