@@ -17,13 +17,16 @@ use semver_req::common::values::Flavour;
 use serde_json::Value;
 use std::alloc::{AllocError, Global};
 use std::collections::BTreeMap;
+use std::fs;
 use std::io::Write;
-use std::rt::Runtime;
+use std::rt::{Files, Runtime};
 use terminal::console::{Console, Status, Stop, print_line};
 use terminal::entry::Entry;
 use terminal::hints::behind_protocol;
 use terminal::manifest::entries;
-use terminal::npm::{Reading, Source, read_range, renamed, source_of, without_ignored};
+use terminal::npm::{
+    Reading, Source, is_package_name, read_range, renamed, source_of, without_ignored,
+};
 use terminal::sections::Kind;
 use terminal::shown::{Quoted, Shown};
 
@@ -436,8 +439,41 @@ fn add_manifests<R: Runtime + AllocGlobal, O: Write, E: Write>(
     Ok(status)
 }
 
-/// `ranges asked [FOLDER]`: the packages that several manifests ask for, by name, and the lowest version that all accept, or two ranges that
-/// exclude each other.
+// Reports a package of --package that no manifest asks for.
+fn tell_unasked<O: Write, E: Write>(
+    console: &mut Console<O, E>,
+    packages: &Packages,
+    names: &[&str],
+) -> Status {
+    let mut status = Status::Answered;
+    for name in names {
+        if !packages.contains_key(*name) {
+            console.tell(format_args!("no manifest asks for {}", Quoted(name)));
+            status = Status::Nothing;
+        }
+    }
+    status
+}
+
+// Says how to ask about one package, if the folder that was given may be the name of one, and isn't there.
+fn hint_at_package<R: Files, O: Write, E: Write>(
+    rt: &R,
+    console: &mut Console<O, E>,
+    folder: Option<&str>,
+) {
+    let Some(name) = folder else {
+        return;
+    };
+    if is_package_name(name) && !fs::exists(rt, name).unwrap_or(true) {
+        let _ = writeln!(
+            console.err,
+            "  = to ask about one package, run: ranges asked --package {name}"
+        );
+    }
+}
+
+/// `ranges asked [FOLDER]`: the packages that several manifests ask for, by name, or those of --package; and the lowest version that all
+/// accept, or two ranges that exclude each other.
 pub fn report<R: Runtime + AllocGlobal, O: Write, E: Write>(
     rt: &R,
     console: &mut Console<O, E>,
@@ -451,12 +487,19 @@ pub fn report<R: Runtime + AllocGlobal, O: Write, E: Write>(
     for group in groups.iter() {
         status = status.worse(add_manifests(rt, console, group, &mut manifests)?);
     }
-    if manifests.len() == 1 {
+    hint_at_package(rt, console, matches.get_str("FOLDER"));
+    let names = matches.get_strs("package").unwrap_or(&[]);
+    if manifests.len() == 1 && names.is_empty() {
         console.tell("only one manifest was found: asked compares several");
     }
     let packages = all_packages(alloc, manifests.as_slice())?;
     for (name, package) in packages.iter() {
-        if !package.is_shared() {
+        let is_listed = if names.is_empty() {
+            package.is_shared()
+        } else {
+            names.contains(&name.as_str())
+        };
+        if !is_listed {
             continue;
         }
         let agreement = agreed(alloc, package, console.options.pre_release)?;
@@ -472,5 +515,5 @@ pub fn report<R: Runtime + AllocGlobal, O: Write, E: Write>(
     if console.options.json {
         console.end_items()?;
     }
-    Ok(status)
+    Ok(status.worse(tell_unasked(console, &packages, names)))
 }
