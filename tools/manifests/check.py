@@ -21,6 +21,8 @@ TABLES = ("specifiers", "manifests")
 # Ranges to rewrite: each comparator, or nothing, and another, with each separator between them.
 COMPARATORS = ("1", "^1.2", "~1.2.3", ">=1.2", "<2", ">1.2.x", "<=2.1.0", "1.x.3", "^0.0.3", "2.0.0-beta", ">=2.0.0-beta", ">=1.2.0-rc.1", "<0.0.0-beta", "*", "")
 SEPARATORS = (" ", " || ", "||", ", ", " - ")
+# With this rule --fix rewrites ranges to their canonical form.
+CANONICAL = ("--rule", "not-canonical=warn")
 
 
 def rows_of(name):
@@ -77,9 +79,9 @@ def rewritten():
     with tempfile.TemporaryDirectory() as room:
         path = pathlib.Path(room, "package.json")
         path.write_text(json.dumps({"dependencies": {f"p{place}": text for place, text in enumerate(old)}}))
-        subprocess.run([RANGES, "check", "--fix", "-q", path], timeout=20)
+        subprocess.run([RANGES, "check", "--fix", "-q", *CANONICAL, path], timeout=20)
         new = json.loads(path.read_text())["dependencies"].values()
-        again = subprocess.run([RANGES, "check", "--dry-run", path], capture_output=True, text=True, timeout=20).stdout
+        again = subprocess.run([RANGES, "check", "--dry-run", *CANONICAL, path], capture_output=True, text=True, timeout=20).stdout
     pairs = [pair for pair in zip(old, new) if pair[0] != pair[1]]
     told = asked_anew("same.mjs", pairs) or []
     yield from (f"--fix: {one!r} was rewritten to {other!r}, and npm sees {version} in one of them" for one, other, version in told)

@@ -57,6 +57,9 @@ LONG = (
 RULE_TEXTS = ("shortDescription", "fullDescription", "help")
 RULES_OFF = ["meta-without-range", "not-canonical", "pre-release-bound"]
 
+# With this rule `--fix` rewrites ranges to their canonical form.
+CANONICAL = ["--rule", "not-canonical=warn"]
+
 # The stack that a program has behind its arguments, in bytes; and how much its arguments may take there, and more.
 STACK, ROOMY = 256 * 1024, 64 * 1024 * 1024
 # The calls of ptrace.
@@ -399,7 +402,7 @@ def changed():
     with room_of({"one": "1.x\n", "other": "2.x\n"}) as name:
         room = pathlib.Path(name)
         os.mkfifo(room / "late")
-        child = subprocess.Popen([str(RANGES), "check", "--fix", "one", "other", "late"], cwd=room, stderr=subprocess.PIPE)
+        child = subprocess.Popen([str(RANGES), "check", "--fix", *CANONICAL, "one", "other", "late"], cwd=room, stderr=subprocess.PIPE)
         # It opens once the files before it were read.
         with open(room / "late", "w") as late:
             (room / "one").write_text("3.x\n")
@@ -457,10 +460,10 @@ def diffs():
         for end in ("", "\n"):
             old = "\n".join("1.x" if line % 7 == 0 or line % 11 == 1 else "^1.2.0" for line in range(count)) + end
             row = {"files": {"list": old}, "after": {"list": ""}}
-            new = run(RANGES, row | {"arguments": ["check", "--fix", "list"]})[3]["list"]
+            new = run(RANGES, row | {"arguments": ["check", "--fix", *CANONICAL, "list"]})[3]["list"]
             parts = difflib.unified_diff(old.splitlines(True), new.splitlines(True), "a/list", "b/list")
             wanted = "".join(part if part.endswith("\n") else part + "\n\\ No newline at end of file\n" for part in parts)
-            found = run(RANGES, row | {"arguments": ["check", "--dry-run", "list"]})[0]
+            found = run(RANGES, row | {"arguments": ["check", "--dry-run", *CANONICAL, "list"]})[0]
             yield None if found == wanted and new != old else f"the diff of {old!r}: wanted {wanted!r}, found {found!r}"
 
 
@@ -489,7 +492,7 @@ def applied():
             paths = [here / file for file in files]
             for path in paths:
                 path.write_text("1.x\n")
-            ran = subprocess.run([RANGES, "check", "--dry-run", *files], cwd=here, capture_output=True, text=True, timeout=60)
+            ran = subprocess.run([RANGES, "check", "--dry-run", *CANONICAL, *files], cwd=here, capture_output=True, text=True, timeout=60)
             git = subprocess.run(["git", "apply"], cwd=folder, input=ran.stdout, stderr=subprocess.DEVNULL, text=True, timeout=60)
             found = ran.stderr, git.returncode, {path.read_text() for path in paths}
             wanted = told, status, {"1.x\n" if status else "1\n"}

@@ -194,6 +194,11 @@ fn are_alike(pieces: &[Piece]) -> bool {
     })
 }
 
+// How many alternatives a range has.
+fn alternatives(range: &str) -> usize {
+    range.split("||").count()
+}
+
 // The alternatives of a range that no other contains; none if npm may read one in another way.
 fn shortened(
     alloc: Global,
@@ -294,7 +299,7 @@ fn better(
     };
     // npm lets pre-releases match an engine, and then another form may match others.
     if levels.of(Rule::NotCanonical) == Level::Off || kind == Kind::Engine {
-        let is_new = has_commas || is_corrected || kept.len() < range.trim().len();
+        let is_new = has_commas || is_corrected || alternatives(kept.as_str()) < alternatives(text);
         return Ok(if is_new { Some(kept) } else { None });
     }
     match canonical(alloc, flavour, kept.as_str())? {
@@ -768,7 +773,6 @@ pub fn rewrite<R: Input + Files + AllocGlobal, O: Write, E: Write>(
     let alloc = console.alloc;
     let mut all = Vec::new(alloc);
     let mut shared = Levels::new();
-    shared.put(Rule::NotCanonical, Level::Warning);
     set_above(rt, &mut shared, group)?;
     let pins = pins_of(rt, group)?;
     for (place, path) in group.paths.iter().enumerate() {

@@ -123,7 +123,7 @@ pub const RULES: [About; COUNT] = [
         name: "not-canonical",
         level: Level::Off,
         finds: "The range isn't written in its canonical form.",
-        help: "Write what `ranges canonical` prints, or run `ranges check --fix`.",
+        help: "Write what `ranges canonical` prints, or run `ranges check --fix` with this rule on.",
     },
     About {
         rule: Rule::NpmDiffers,
@@ -286,14 +286,5 @@ impl Levels {
             *old = level;
         }
         Ok(None)
-    }
-
-    /// Sets the level of a rule.
-    pub fn put(&mut self, rule: Rule, level: Level) {
-        for (old, about) in self.0.iter_mut().zip(&RULES) {
-            if about.rule == rule {
-                *old = level;
-            }
-        }
     }
 }
