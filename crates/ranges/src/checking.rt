@@ -8,7 +8,8 @@ use crate::errors::{errors_at_end, errors_of};
 use crate::explaining::has_left_out;
 use crate::findings::{Cause, Finding, Format, Position, Report};
 use crate::fixing::{
-    Rewritten, apply, is_rewritten, is_tag, pieces_of, print_diffs, rewrite, set_above, write_all,
+    Rewritten, apply, is_rewritten, is_tag, pieces_of, pins_of, print_diffs, rewrite, set_above,
+    write_all,
 };
 use crate::known::{Known, Manager, is_of_npm, is_own, known_of, linked_by};
 use crate::overriding::Overrides;
@@ -1213,6 +1214,12 @@ fn check_rewritten<R: Runtime + AllocGlobal, O: Write, E: Write>(
     set_above(rt, &mut report.levels, group)?;
     for (place, file) in files.iter().enumerate() {
         let manager = known.manager(place);
+    let pins = if report.format == Format::Json {
+        pins_of(rt, group)?
+    } else {
+        Vec::new(console.alloc)
+    };
+    report.pins = pins.as_slice();
         let linked = linked_at(rt, console, group, place, manager)?;
         let file = Checked {
             path: file.path.as_str(),

@@ -1,6 +1,7 @@
 //! What `ranges check` finds, and how it is printed.
 
 use crate::errors::{add_first, first_hint, first_place, print_errors};
+use crate::fixing::replacement;
 use crate::rules::{Level, Levels, RULES, Rule};
 use answers::object::Object;
 use clap::ArgMatches;
@@ -138,6 +139,8 @@ pub struct Report<'r> {
     pub status: Status,
     /// The status of a warning.
     pub warning: Status,
+    /// The keys of resolutions that name a package with a range, if the format is JSON: --fix leaves such ranges alone.
+    pub pins: &'r [String],
 }
 
 impl Format {
@@ -199,6 +202,7 @@ impl<'r> Report<'r> {
             position: Position::START,
             status: Status::Answered,
             warning,
+            pins: &[],
         }
     }
 }
@@ -351,13 +355,26 @@ fn line(alloc: Global, entry: &Entry, finding: Finding<'_>) -> Result<String, Al
     }
 }
 
-// The same, and the hint on a line of its own.
+// The hint at the first error, if there is one.
+fn hint_of(
+    alloc: Global,
+    entry: &Entry,
+    finding: Finding<'_>,
+) -> Result<Option<String>, AllocError> {
+    let Some(errors) = finding.errors else {
+        return Ok(None);
+    };
+    match first_hint(entry.text.as_str(), errors, grammar(entry)) {
+        Some(hint) => Ok(Some(format!(in alloc; "{hint}")?)),
+        None => Ok(None),
+    }
+}
+
+// The same line, and the hint on a line of its own.
 fn lines(alloc: Global, entry: &Entry, finding: Finding<'_>) -> Result<String, AllocError> {
     let mut all = line(alloc, entry, finding)?;
-    if let Some(errors) = finding.errors
-        && let Some(hint) = first_hint(entry.text.as_str(), errors, grammar(entry))
-    {
-        let hint = format!(in alloc; "\n{hint}")?;
+    if let Some(hint) = hint_of(alloc, entry, finding)? {
+        all.push('\n')?;
         all.push_str(hint.as_str())?;
     }
     Ok(all)
@@ -383,7 +400,7 @@ impl Report<'_> {
         entry: &Entry,
         finding: Finding<'_>,
         weight: Weight,
-    ) -> Result<Value, AllocError> {
+    ) -> Result<Value, Stop> {
         let key = match weight {
             Weight::Error | Weight::Warning => "message",
             Weight::Notice => "canonical",
@@ -398,19 +415,23 @@ impl Report<'_> {
             Cause::Refused | Cause::Fine => None,
         };
         let name = name_of(alloc, entry)?;
+        let hint = hint_of(alloc, entry, finding)?;
+        let better = replacement(alloc, &self.levels, self.pins, entry)?;
         let mut json = Object::new(alloc)
             .put("column", Ok(Value::from(self.position.column)))
             .put_text("file", Some(self.file))
+            .put_text("hint", hint.as_deref())
             .put_text("level", Some(weight.name()))
             .put("line", Ok(Value::from(self.position.line)))
             .put_text(key, Some(finding.message))
             .put_text("name", Some(name.as_str()))
+            .put_text("replacement", better.as_deref())
             .put_text("rule", rule)
             .put_text("text", text);
         if let Some(errors) = finding.errors {
             json = add_first(alloc, json, entry.text.as_str(), errors);
         }
-        json.into_json()
+        Ok(json.into_json()?)
     }
 
     // The column at which a finding begins, and the one behind its end.
@@ -500,7 +521,10 @@ impl Report<'_> {
         self.status = self.status.worse(status);
         match self.format {
             Format::Silent => Ok(()),
-            Format::Json => console.item(self.json(console.alloc, entry, finding, weight)),
+            Format::Json => {
+                let json = self.json(console.alloc, entry, finding, weight)?;
+                console.item(Ok(json))
+            }
             Format::GitHub => {
                 let text = self.annotation(console.alloc, entry, finding, weight)?;
                 print_line(&mut console.out, text.as_str())

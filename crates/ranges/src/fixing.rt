@@ -31,7 +31,7 @@ use terminal::npm::{
     source_of,
 };
 use terminal::sections::Kind;
-use terminal::shown::Shown;
+use terminal::shown::{Shown, part};
 
 // ---- ranges
 
@@ -352,6 +352,43 @@ pub fn apply(alloc: Global, levels: &mut Levels, settings: &[&str]) -> Result<()
     Ok(())
 }
 
+// Whether a range is written in place of one that was found: it isn't the same, and needs no escapes in a string of JSON.
+fn is_written(found: Found<'_>, range: &str) -> bool {
+    // In a specifier whitespace is a mistake.
+    let old = match found.flavour {
+        Flavour::Specifier => found.range,
+        _ => found.range.trim(),
+    };
+    range != old && !range.contains(|c: char| c.is_control() || matches!(c, '"' | '\\'))
+}
+
+/// The text of an entry with a better range, if it is rewritten. These are the keys of resolutions that name a package with a range.
+pub fn replacement(
+    alloc: Global,
+    levels: &Levels,
+    pins: &[String],
+    entry: &Entry,
+) -> Result<Option<String>, Stop> {
+    let Some(found) = found_in(alloc, entry)? else {
+        return Ok(None);
+    };
+    let Some(range) = better(alloc, levels, entry.kind, found)? else {
+        return Ok(None);
+    };
+    let range = range.as_str();
+    if !is_written(found, range) || is_pinned(alloc, pins, entry)? {
+        return Ok(None);
+    }
+    let text = entry.text.as_str();
+    let front = part(text, 0, found.start);
+    let behind = part(
+        text,
+        found.start.saturating_add(found.range.len()),
+        text.len(),
+    );
+    Ok(Some(format!(in alloc; "{front}{range}{behind}")?))
+}
+
 // A file that is rewritten.
 #[derive(Drop)]
 struct Edit<'t> {
@@ -365,18 +402,12 @@ struct Edit<'t> {
 }
 
 impl Edit<'_> {
-    // Writes a range in place of one in an entry, unless it is the same, or a string of JSON would need escapes.
+    // Writes a range in place of one in an entry.
     fn put(&mut self, entry: &Entry, found: Found<'_>, range: &str) -> Result<(), AllocError> {
         let start = entry.index_of(self.text, found.start);
         let found_end = found.start.saturating_add(found.range.len());
         let end = entry.index_of(self.text, found_end);
-        // In a specifier whitespace is a mistake.
-        let old = match found.flavour {
-            Flavour::Specifier => found.range,
-            _ => found.range.trim(),
-        };
-        let is_same = range == old;
-        if is_same || range.contains(|c: char| c.is_control() || matches!(c, '"' | '\\')) {
+        if !is_written(found, range) {
             return Ok(());
         }
         let before = self.text.get(self.taken..start).unwrap_or("");
@@ -395,8 +426,8 @@ impl Edit<'_> {
     }
 }
 
-// The keys of Yarn's resolutions that name a package with a range, in the manifests of a group's root.
-fn pins_of<R: Files + AllocGlobal>(rt: &R, group: &Group) -> Result<Vec<String>, Stop> {
+/// The keys of Yarn's resolutions that name a package with a range, in the manifests of a group's root.
+pub fn pins_of<R: Files + AllocGlobal>(rt: &R, group: &Group) -> Result<Vec<String>, Stop> {
     let mut pins = Vec::new(rt.alloc());
     let roots = group.paths.iter().take(group.root_count());
     for path in group.above.iter().chain(roots) {
