@@ -388,6 +388,12 @@ fn refers(entry: &Entry) -> bool {
         && matches!(entry.section, "overrides" | "resolutions" | "pnpm")
 }
 
+// Whether a line of a list is read as a range, though npm takes such a text for a folder.
+fn is_whole_range(entry: &Entry) -> bool {
+    let text = entry.text.as_str();
+    entry.kind == Kind::Range && (text.contains(' ') || npm::is_scoped_with_range(text))
+}
+
 // Checks a dependency, or a range on a line, which may name a package, too.
 fn check_dependency<O: Write, E: Write>(
     console: &mut Console<O, E>,
@@ -400,7 +406,7 @@ fn check_dependency<O: Write, E: Write>(
     }
     match source_of(text) {
         Source::Registry(range) => check_range(console, report, entry, Flavour::Npm, range),
-        Source::Elsewhere | Source::Odd(_) if entry.kind == Kind::Range && text.contains(' ') => {
+        Source::Elsewhere | Source::Odd(_) if is_whole_range(entry) => {
             check_range(console, report, entry, Flavour::Npm, text)
         }
         Source::Elsewhere => Ok(()),
