@@ -69,6 +69,18 @@ pub fn differences(
     Ok(all)
 }
 
+/// How node-semver, and so npm, reads a range differently, separators included.
+pub fn notes(alloc: Global, range: &str, pieces: &[Piece]) -> Result<Vec<String>, AllocError> {
+    let mut all = Vec::new(alloc);
+    if has_separators(range) {
+        all.push(String::from_str(alloc, SEPARATORS)?)?;
+    }
+    for difference in differences(alloc, range, pieces)? {
+        all.push(difference)?;
+    }
+    Ok(all)
+}
+
 /// The warnings about a range, and the rules that they come by.
 pub type Warnings = Vec<(Rule, String)>;
 

@@ -1,7 +1,8 @@
 //! `ranges explain`: what a range means.
 
-use crate::advice::{SEPARATORS, differences, has_separators};
+use crate::advice::notes;
 use crate::comparing::{Line, print_json, print_tag, reject_line};
+use crate::fixing::pieces_of;
 use answers::explained::{Explanation, Matches, Meaning, Piece, explain};
 use answers::explained_json::ranges_explained;
 use deno_semver::{PreRelease, RangeBound, Version, VersionBound, VersionBoundKind, VersionRange};
@@ -129,6 +130,16 @@ impl fmt::Display for Explained<'_> {
     }
 }
 
+// What npm reads differently.
+#[derive(Clone, Copy)]
+struct Note<'a>(&'a str);
+
+impl fmt::Display for Note<'_> {
+    fn fmt<W: fmt::Write>(&self, f: &mut fmt::Formatter<W>) -> fmt::Result {
+        write!(f, "note: {}", Shown(self.0))
+    }
+}
+
 /// Whether one of the alternatives is left out.
 pub fn has_left_out(pieces: &[Piece]) -> bool {
     pieces
@@ -173,14 +184,8 @@ fn report_pieces<O: Write, E: Write>(
         }
         print_line(&mut console.out, format_args!("canonical form: {normal}"))?;
         if options.flavour == Flavour::Npm {
-            if has_separators(text) {
-                print_line(&mut console.out, format_args!("note: {SEPARATORS}"))?;
-            }
-            for difference in differences(alloc, text, pieces)?.iter() {
-                print_line(
-                    &mut console.out,
-                    format_args!("note: {}", Shown(difference.as_str())),
-                )?;
+            for note in notes(alloc, text, pieces)?.iter() {
+                print_line(&mut console.out, Note(note.as_str()))?;
             }
         }
     }
@@ -209,6 +214,26 @@ fn report_text<O: Write, E: Write>(
         }
         Err(problem) => reject_line(console, line, &[text], &problem),
     }
+}
+
+/// Says on standard error what npm reads differently in the ranges that a command is given.
+pub fn tell_notes<O: Write, E: Write>(
+    console: &mut Console<O, E>,
+    given: Given<'_, '_>,
+) -> Result<(), Stop> {
+    let (alloc, options) = (console.alloc, console.options);
+    if options.json || options.quiet || options.flavour != Flavour::Npm {
+        return Ok(());
+    }
+    for name in &["RANGE", "range"] {
+        for text in given.texts(alloc, name)?.iter() {
+            let pieces = pieces_of(alloc, Flavour::Npm, text)?.unwrap_or(Vec::new(alloc));
+            for note in notes(alloc, text, pieces.as_slice())?.iter() {
+                console.tell(Note(note.as_str()));
+            }
+        }
+    }
+    Ok(())
 }
 
 /// `ranges explain RANGE..`: what each range means, and for `-` each line of standard input. The status is that of invalid arguments

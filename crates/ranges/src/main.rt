@@ -79,6 +79,9 @@ fn perform<R: Runtime + AllocGlobal, O: Write, E: Write>(
 ) -> Result<Status, Stop> {
     let line = line_for(rt, console, name, matches)?;
     let given = Given::new(&*matches, line.as_deref());
+    if matches!(name, "filter" | "best" | "outdated" | "min") {
+        explaining::tell_notes(console, given)?;
+    }
     match name {
         "check" => checking::check(rt, console, matches),
         "asked" => asked::report(rt, console, matches),
