@@ -744,6 +744,8 @@ struct Names<'e> {
     /// The names of all peer dependencies.
     peers: HashSet<&'e str>,
     overrides: Overrides<'e>,
+    /// The name of the file's own package, which may ask for an older version of itself.
+    own: &'e str,
     /// Whether the workspaces have a list of patterns.
     has_packages: bool,
     /// Whether npm is the package manager; none if nothing says so.
@@ -791,6 +793,29 @@ fn foreign(is_named: bool) -> &'static str {
     }
 }
 
+// Reports that the workspace has a package in another version than a dependency asks for.
+fn check_sibling<O: Write, E: Write>(
+    console: &mut Console<O, E>,
+    report: &mut Report<'_>,
+    entry: &Entry,
+    known: &Known,
+) -> Result<(), Stop> {
+    let Some(version) = known.other_version(console.alloc, entry)? else {
+        return Ok(());
+    };
+    let name = entry.name.as_str();
+    let message = format!(in console.alloc; "the workspace has {name}@{version}");
+    report.tell(console, entry, Rule::OtherVersion, message)
+}
+
+// The name that a manifest gives its package; an empty one if it gives none.
+fn own_name(entries: &[Entry]) -> &str {
+    match entries.iter().find(|entry| entry.kind == Kind::Name) {
+        Some(entry) => entry.text.as_str(),
+        None => "",
+    }
+}
+
 // Checks what an entry of dependencies says with others, and with what is known of the workspace.
 fn check_relations<'e, O: Write, E: Write>(
     console: &mut Console<O, E>,
@@ -814,6 +839,9 @@ fn check_relations<'e, O: Write, E: Write>(
             } else if let Some(message) = file.known.refusal(console.alloc, entry)? {
                 let finding = Finding::new(Cause::Refused, message.as_str());
                 report.add(console, entry, finding)?;
+            }
+            if names.own != entry.name.as_str() {
+                check_sibling(console, report, entry, file.known)?;
             }
         }
         "overrides" | "pnpm" if file.is_root => {
@@ -1062,6 +1090,7 @@ fn check_entries<O: Write, E: Write>(
         asked: HashMap::new(console.alloc),
         peers: HashSet::new(console.alloc),
         overrides: Overrides::of(console.alloc, entries)?,
+        own: own_name(entries),
         has_packages: entries.iter().any(|entry| entry.kind == Kind::Packages),
         is_of_npm: named.or(file.manager.locked),
         is_named: named.is_some(),

@@ -299,6 +299,27 @@ impl Known {
     }
 }
 
+impl Known {
+    /// The version of a workspace that a manifest asks a registry for by its name, if the range doesn't match that version.
+    pub fn other_version(&self, alloc: Global, entry: &Entry) -> Result<Option<&str>, AllocError> {
+        let (name, text) = (entry.name.as_str(), entry.text.as_str());
+        let is_known = self.workspace != Workspace::None && self.has_workspace(name);
+        let Source::Registry(range) = source_of(text) else {
+            return Ok(None);
+        };
+        // An alias and a repository name another package.
+        if !is_known || range.len() != text.len() {
+            return Ok(None);
+        }
+        match self.versions.get(name) {
+            Some(version) if !is_match(alloc, range, version.as_str())? => {
+                Ok(Some(version.as_str()))
+            }
+            _ => Ok(None),
+        }
+    }
+}
+
 /// Whether a text asks for a package of the workspace, whatever version it has there.
 pub fn is_own(text: &str) -> bool {
     let Some(asked) = behind_protocol(text, "workspace:") else {

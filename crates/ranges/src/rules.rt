@@ -37,6 +37,7 @@ pub enum Rule {
     OddSection,
     OddTag,
     OddVersion,
+    OtherVersion,
     PreReleaseBound,
     UnmatchedWorkspace,
 }
@@ -51,7 +52,7 @@ pub struct About {
     pub help: &'static str,
 }
 
-const COUNT: usize = 18;
+const COUNT: usize = 19;
 
 /// All rules, by name.
 pub const RULES: [About; COUNT] = [
@@ -166,6 +167,13 @@ pub const RULES: [About; COUNT] = [
         level: Level::Warning,
         finds: "The pre-release of a version is itself a higher version, as of `1.0.0-2.0.0`.",
         help: "Write spaces around the `-` if you mean a range: `1.0.0 - 2.0.0`.",
+    },
+    About {
+        rule: Rule::OtherVersion,
+        name: "other-version",
+        level: Level::Warning,
+        finds: "The workspace has the package in a version that the range doesn't match, so it comes from the registry.",
+        help: "Write a range that matches the version in the workspace.",
     },
     About {
         rule: Rule::PreReleaseBound,
