@@ -13,7 +13,7 @@ use crate::fixing::{
 };
 use crate::known::{Known, Manager, is_of_npm, is_own, known_of, linked_by};
 use crate::overriding::Overrides;
-use crate::rules::{Level, Levels, Rule};
+use crate::rules::{Level, Levels, Rule, Unknown};
 use crate::walking::{
     Group, Manifests, add_roots, find, path_in_repository, read_file, without_mark,
 };
@@ -1155,8 +1155,11 @@ fn try_settings<O: Write, E: Write>(
 ) -> Result<(), Stop> {
     let mut levels = Levels::new();
     for setting in settings {
-        let (name, level) = setting.split_once('=').unwrap_or((*setting, ""));
-        if let Some(unknown) = levels.set(console.alloc, name, level)? {
+        let unknown = match setting.split_once('=') {
+            Some((name, level)) => levels.set(console.alloc, name, level)?,
+            None => Some(Unknown::NoLevel),
+        };
+        if let Some(unknown) = unknown {
             let message = format!(in console.alloc; "{unknown}")?;
             let _ = console.complain(format_args!("--rule {}", Shown(setting)), message.as_str());
             return Err(Stop::Ended(Status::Misused));

@@ -211,6 +211,8 @@ pub enum Unknown {
     /// The rule, and the one whose name is nearest.
     Rule(Option<&'static str>),
     Level,
+    /// There is no level.
+    NoLevel,
 }
 
 // The rule whose name is nearest to a text, if that may be meant.
@@ -230,6 +232,9 @@ fn nearest(alloc: Global, text: &str) -> Result<Option<&'static str>, AllocError
 impl fmt::Display for Unknown {
     fn fmt<W: fmt::Write>(&self, f: &mut fmt::Formatter<W>) -> fmt::Result {
         match self {
+            Unknown::NoLevel => {
+                f.write_str("the level is missing: write NAME=off, NAME=warn or NAME=error")
+            }
             Unknown::Level => f.write_str("no such level; there are off, warn and error"),
             Unknown::Rule(nearest) => {
                 match nearest {
