@@ -4,7 +4,7 @@ use crate::advice::{
     EMPTY_AT_END, SEPARATORS, bound_of_pre_releases, differences, has_match, has_separators,
     warnings,
 };
-use crate::errors::{errors_at_end, errors_of};
+use crate::errors::{errors_at_end, errors_of, message_of};
 use crate::explaining::has_left_out;
 use crate::findings::{Cause, Finding, Format, Position, Report};
 use crate::fixing::{
@@ -489,7 +489,7 @@ fn check_specifier<O: Write, E: Write>(
         }
         Err(Problem::Invalid(invalid)) => {
             let errors = errors_of(console.alloc, Flavour::Specifier, text, &invalid)?;
-            let message = invalid.failure.message();
+            let message = message_of(text, &errors, invalid.failure.message());
             report.add_with(console, entry, Cause::Refused, message, &errors)
         }
         Err(Problem::OutOfMemory) => Err(Stop::OutOfMemory),
@@ -1214,6 +1214,12 @@ fn check_group<R: Runtime + AllocGlobal, O: Write, E: Write>(
     let mut report = *report;
     let mut status = Status::Answered;
     let known = known_of(rt, group)?;
+    let pins = if report.format == Format::Json {
+        pins_of(rt, group)?
+    } else {
+        Vec::new(console.alloc)
+    };
+    report.pins = pins.as_slice();
     set_above(rt, &mut report.levels, group)?;
     for (place, path) in group.paths.iter().enumerate() {
         let path = path.as_str();
@@ -1252,12 +1258,6 @@ fn check_rewritten<R: Runtime + AllocGlobal, O: Write, E: Write>(
     set_above(rt, &mut report.levels, group)?;
     for (place, file) in files.iter().enumerate() {
         let manager = known.manager(place);
-    let pins = if report.format == Format::Json {
-        pins_of(rt, group)?
-    } else {
-        Vec::new(console.alloc)
-    };
-    report.pins = pins.as_slice();
         let linked = linked_at(rt, console, group, place, manager)?;
         let file = Checked {
             path: file.path.as_str(),

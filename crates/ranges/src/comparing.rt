@@ -1,7 +1,7 @@
 //! The commands that print one line.
 
 use crate::apart::first_apart;
-use crate::errors::{add_first, errors_of, print_errors};
+use crate::errors::{add_first, errors_of, message_of, print_errors};
 use answers::asking::{Answer, Kind, Problem};
 use answers::object::Object;
 use answers::questions::{common_version, order, text_of_version, version_outside};
@@ -59,8 +59,11 @@ pub fn reject_line<O: Write, E: Write>(
         Kind::Reference => "reference",
         Kind::Step => "increment",
     };
-    let message = url_behind(argument).unwrap_or(invalid.failure.message());
     let errors = errors_of(console.alloc, console.options.flavour, argument, invalid)?;
+    let message = match url_behind(argument) {
+        Some(message) => message,
+        None => message_of(argument, &errors, invalid.failure.message()),
+    };
     if console.options.json {
         let error = Object::new(console.alloc)
             .put_text("kind", Some(kind))

@@ -71,14 +71,22 @@ pub fn print_errors<O: Write>(
             print_caret(out, style, text, error.place, note)?;
             match scope_hint(text) {
                 Some(hint) if error.missing.is_none() => {
-                    print_line(
-                        out,
-                        format_args!("  = packages of JSR have a scope: {hint}"),
-                    )
+                    print_line(out, format_args!("  = {hint}"))
                 }
                 _ => Ok(()),
             }
         }
+    }
+}
+
+/// What is wrong with a text that isn't a reference: the parser's message, but for a package of JSR whose scope lacks its `@`, since the
+/// parser proposes another text than the hint does.
+pub fn message_of<'m>(text: &str, errors: &PackageErrors, message: &'m str) -> &'m str {
+    match errors {
+        PackageErrors::Part(error) if error.missing.is_none() && scope_hint(text).is_some() => {
+            "packages of JSR have a scope"
+        }
+        PackageErrors::Part(_) | PackageErrors::Range(_) => message,
     }
 }
 
