@@ -122,6 +122,22 @@ fn answer<R: Runtime + AllocGlobal, O: Write, E: Write>(
     Ok(status)
 }
 
+// Whether the arguments are those of `min`, with more than one range.
+fn asks_min_of_several(arguments: &[String]) -> bool {
+    let is_min = arguments
+        .get(1)
+        .is_some_and(|command| command.as_str() == "min");
+    let ranges = arguments
+        .iter()
+        .skip(2)
+        .filter(|it| !it.as_str().starts_with('-'));
+    is_min && ranges.count() > 1
+}
+
+// What is said of such arguments.
+const FOR_MORE_RANGES: &str =
+    "  = for the lowest version that several ranges match, run: ranges common RANGE RANGE..";
+
 // Parses the arguments, and runs their command, with a buffered console or, if it is quiet, one that prints nowhere. Or prints
 // the help, the version, or what is wrong with the arguments.
 fn run<R: Runtime + AllocGlobal, E: Write + Drop>(
@@ -152,11 +168,14 @@ fn run<R: Runtime + AllocGlobal, E: Write + Drop>(
                 Ok(Status::Answered)
             }
             Mistake::OutOfMemory => Err(Stop::OutOfMemory),
-            _ => {
+            kind => {
                 let text = format!(in rt.alloc(); "{mistake}")?;
                 for line in text.lines() {
                     // What can't be written to standard error is left out.
                     let _ = writeln!(err, "{}", Shown(line));
+                }
+                if kind == Mistake::UnknownArgument && asks_min_of_several(arguments) {
+                    let _ = writeln!(err, "{FOR_MORE_RANGES}");
                 }
                 Ok(match arguments.get(1) {
                     Some(command) if command.as_str() == "check" => Status::Misused,
