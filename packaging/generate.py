@@ -38,7 +38,7 @@ PROGRAM = TOP / "crates/ranges/out/ranges"
 PAGE = TOP / "docs/RANGES.md"
 LEVELS = ("off", "warn", "error")
 # The options that may be given several times.
-REPEATED = ("exclude", "range", "rule")
+REPEATED = ("exclude", "package", "range", "rule")
 
 
 @dataclass

@@ -7,8 +7,8 @@ _ranges() {
         --color) COMPREPLY=($(compgen -W "auto always never" -- "$word")); return ;;
         -g|--grammar) COMPREPLY=($(compgen -W "npm normalized strict" -- "$word")); return ;;
         --base) COMPREPLY=($(compgen -W "0 1 none" -- "$word")); return ;;
-        --rule) COMPREPLY=($(compgen -S = -W "any-zero contained-alternative disjoint-sections dropped-alternative duplicate-key empty-alternative ignored-comparator meta-without-range no-match not-canonical npm-differs odd-engine odd-path odd-section odd-tag odd-version pre-release-bound unmatched-workspace" -- "$word")); compopt -o nospace 2>/dev/null; return ;;
-        any-zero|contained-alternative|disjoint-sections|dropped-alternative|duplicate-key|empty-alternative|ignored-comparator|meta-without-range|no-match|not-canonical|npm-differs|odd-engine|odd-path|odd-section|odd-tag|odd-version|pre-release-bound|unmatched-workspace) COMPREPLY=($(compgen -W "off warn error" -- "$word")); return ;;
+        --rule) COMPREPLY=($(compgen -S = -W "any-zero contained-alternative disjoint-sections dropped-alternative duplicate-key empty-alternative ignored-comparator meta-without-range no-match not-canonical npm-differs odd-engine odd-path odd-section odd-tag odd-version other-version pre-release-bound unmatched-workspace" -- "$word")); compopt -o nospace 2>/dev/null; return ;;
+        any-zero|contained-alternative|disjoint-sections|dropped-alternative|duplicate-key|empty-alternative|ignored-comparator|meta-without-range|no-match|not-canonical|npm-differs|odd-engine|odd-path|odd-section|odd-tag|odd-version|other-version|pre-release-bound|unmatched-workspace) COMPREPLY=($(compgen -W "off warn error" -- "$word")); return ;;
     esac
     if [ "$COMP_CWORD" = 1 ]; then
         COMPREPLY=($(compgen -W "check asked explain canonical normal min common within overlap scans package reference filter matches best outdated simplify compare sort key increment difference coerce help --help --version" -- "$word"))
@@ -16,7 +16,7 @@ _ranges() {
     fi
     case ${COMP_WORDS[1]} in
         check) options="--color -j --json --github --sarif -c --canonical --fix --dry-run --exclude --files -0 --null --rule --strict -q --quiet -h --help -V --version" ;;
-        asked) options="--color -j --json -p --pre --exclude -q --quiet -h --help -V --version" ;;
+        asked) options="--color -j --json -p --pre --exclude -q --quiet --package -h --help -V --version" ;;
         explain) options="--color -j --json -g --grammar -p --pre -h --help -V --version" ;;
         canonical|normal) options="--color -j --json -g --grammar -h --help -V --version" ;;
         min) options="--color -j --json -g --grammar -p --pre -q --quiet -h --help -V --version" ;;
