@@ -775,6 +775,8 @@ struct Checked<'f> {
     linked: &'f HashSet<String>,
     /// The settings of the arguments.
     settings: &'f [&'f str],
+    /// The keys of resolutions that name a package with a range, if findings say what --fix writes.
+    pins: &'f [String],
 }
 
 impl Checked<'_> {
@@ -1119,6 +1121,7 @@ fn check_text<O: Write, E: Write>(
     let mut report = Report {
         file: file.shown,
         text,
+        pins: file.pins,
         ..*group
     };
     set_levels(console, &mut report, entries.as_slice())?;
@@ -1219,7 +1222,6 @@ fn check_group<R: Runtime + AllocGlobal, O: Write, E: Write>(
     } else {
         Vec::new(console.alloc)
     };
-    report.pins = pins.as_slice();
     set_above(rt, &mut report.levels, group)?;
     for (place, path) in group.paths.iter().enumerate() {
         let path = path.as_str();
@@ -1237,6 +1239,7 @@ fn check_group<R: Runtime + AllocGlobal, O: Write, E: Write>(
             manager,
             linked: &linked,
             settings,
+            pins: pins.as_slice(),
         };
         status = status.worse(check_file(rt, console, &mut report, file)?);
     }
@@ -1270,6 +1273,7 @@ fn check_rewritten<R: Runtime + AllocGlobal, O: Write, E: Write>(
             manager,
             linked: &linked,
             settings,
+            pins: &[],
         };
         status = status.worse(check_text(console, &mut report, file)?);
     }
