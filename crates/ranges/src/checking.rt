@@ -13,10 +13,9 @@ use crate::fixing::{
 };
 use crate::known::{Known, Manager, is_of_npm, is_own, known_of, linked_by};
 use crate::overriding::Overrides;
+use crate::projects::by_project;
 use crate::rules::{Level, Levels, Rule, Unknown};
-use crate::walking::{
-    Group, Manifests, add_roots, find, path_in_repository, read_file, without_mark,
-};
+use crate::walking::{Group, Manifests, find, path_in_repository, read_file, without_mark};
 use answers::asking::{Answer, Problem};
 use answers::explained::{Explanation, Meaning, Piece, explain};
 use answers::questions::{common_version, displayed};
@@ -1370,14 +1369,11 @@ pub fn check<R: Runtime + AllocGlobal, O: Write, E: Write>(
     try_settings(console, settings)?;
     let excludes = matches.get_strs("exclude").unwrap_or(&[]);
     let found = find(rt, console, matches.get_strs("FILE"), excludes)?;
-    let Manifests {
-        mut groups,
-        mut status,
-    } = found;
+    let Manifests { groups, mut status } = found;
     if matches.get_flag("files") {
         return Ok(status.worse(print_files(rt, console, groups.as_slice())?));
     }
-    add_roots(rt, console, groups.as_mut_slice())?;
+    let groups = by_project(rt, console, groups)?;
     let groups = groups.as_slice();
     let report = Report::new(matches);
     let is_dry = matches.get_flag("dry-run");

@@ -340,6 +340,10 @@ pub fn set_above<R: Files + AllocGlobal>(
         let entries = entries_of(rt, path.as_str())?;
         set_levels(rt.alloc(), levels, entries.as_slice())?;
     }
+    for setting in group.over.iter() {
+        let (rule, level) = (setting.rule.as_str(), setting.level.as_str());
+        let _ = levels.set(rt.alloc(), rule, level)?;
+    }
     Ok(())
 }
 

@@ -23,6 +23,7 @@ mod known;
 mod listed;
 mod overriding;
 mod packaged;
+mod projects;
 mod relative;
 mod rules;
 mod scanned;

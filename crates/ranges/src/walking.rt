@@ -2,6 +2,7 @@
 
 use crate::findings::Position;
 use crate::known::entries_of;
+use crate::projects::Setting;
 use answers::asking::Problem;
 use answers::reading;
 use patterns::ignored::{Ignored, is_ignored};
@@ -52,8 +53,12 @@ pub struct Group {
     pub above: Vec<String>,
     /// The manifests that were found with these, and that another group has.
     pub others: Vec<String>,
-    /// The package.json of each one's root, as `add_roots` finds it; empty if there is none.
+    /// The package.json of each one's root, as `by_project` finds it; empty if there is none.
     pub roots: Vec<String>,
+    /// Whether these were found in a folder and below it, and may be of several projects.
+    pub is_walked: bool,
+    /// The levels that count behind those of `above`: of the folder in which these were found, and of its root.
+    pub over: Vec<Setting>,
 }
 
 impl Group {
@@ -66,7 +71,8 @@ impl Group {
         }
     }
 
-    fn new(alloc: Global) -> Group {
+    /// A group without files.
+    pub fn new(alloc: Global) -> Group {
         Group {
             paths: Vec::new(alloc),
             own: 0,
@@ -75,16 +81,28 @@ impl Group {
             above: Vec::new(alloc),
             others: Vec::new(alloc),
             roots: Vec::new(alloc),
+            is_walked: false,
+            over: Vec::new(alloc),
         }
     }
 
     // Whether no levels but those of the same manifests above count for all of both.
     fn shares(&self, other: &Group) -> bool {
-        match (self.above.first(), other.above.first()) {
-            (Some(one), Some(another)) => self.own == 0 && one.as_str() == another.as_str(),
-            (_, _) => false,
-        }
+        self.own == 0 && is_of_same(self.above.as_slice(), other.above.as_slice())
     }
+}
+
+/// Whether two lists of a root's manifests are of the same root.
+pub fn is_of_same(one: &[String], another: &[String]) -> bool {
+    match (one.first(), another.first()) {
+        (Some(one), Some(another)) => one.as_str() == another.as_str(),
+        (_, _) => false,
+    }
+}
+
+/// Whether a file with this name is a manifest.
+pub fn is_manifest(name: &str) -> bool {
+    NAMES.contains(&name)
 }
 
 /// What was found.
@@ -512,6 +530,7 @@ fn manifests_in<R: Runtime + AllocGlobal, O: Write, E: Write>(
 ) -> Result<Group, Stop> {
     let alloc = console.alloc;
     let mut found = Group::new(alloc);
+    found.is_walked = true;
     let ignored = match ignored_above(rt, folder) {
         Ok(ignored) => ignored,
         Err(_) => return Err(Stop::OutOfMemory),
@@ -666,15 +685,15 @@ fn holds_workspace(
     Ok(false)
 }
 
-// A folder that may be the root of a workspace.
+/// A folder that may be the root of a workspace.
 #[derive(Drop)]
-struct Root {
+pub struct Root {
     manifests: Vec<String>,
     workspaces: Vec<Workspace>,
 }
 
-// The folders that were asked so far, by paths.
-type Roots = BTreeMap<String, Root>;
+/// The folders that were asked so far, by paths.
+pub type Roots = BTreeMap<String, Root>;
 
 // What a folder says of workspaces. It is read once.
 fn root_at<'r, R: Runtime + AllocGlobal, O: Write, E: Write>(
@@ -699,8 +718,8 @@ fn root_at<'r, R: Runtime + AllocGlobal, O: Write, E: Write>(
     Ok(roots.get_mut(folder))
 }
 
-// The manifests of the workspace that a folder belongs to, or what was found in it: those of the nearest folder above whose patterns match.
-fn manifests_above<R: Runtime + AllocGlobal, O: Write, E: Write>(
+/// The manifests of the workspace that a folder belongs to, or what was found in it: those of the nearest folder above whose patterns match.
+pub fn manifests_above<R: Runtime + AllocGlobal, O: Write, E: Write>(
     rt: &R,
     console: &Console<O, E>,
     folder: &str,
@@ -736,47 +755,6 @@ fn manifests_above<R: Runtime + AllocGlobal, O: Write, E: Write>(
         }
     }
     Ok(Vec::new(alloc))
-}
-
-// The package.json of the root that a manifest belongs to, which may be its own; an empty path if there is none.
-fn root_of<R: Runtime + AllocGlobal, O: Write, E: Write>(
-    rt: &R,
-    console: &Console<O, E>,
-    path: &str,
-    roots: &mut Roots,
-) -> Result<String, Stop> {
-    let alloc = console.alloc;
-    let (folder, name) = split_path(path);
-    if !NAMES.contains(&name) {
-        return Ok(String::new(alloc));
-    }
-    let above = manifests_above(rt, console, folder, &[], roots)?;
-    if above.is_empty() {
-        return Ok(format!(in alloc; "{folder}package.json")?);
-    }
-    for manifest in above {
-        if manifest.as_str().ends_with("/package.json") {
-            return Ok(manifest);
-        }
-    }
-    Ok(String::new(alloc))
-}
-
-/// Finds the root of each manifest by its own place, however it was found.
-pub fn add_roots<R: Runtime + AllocGlobal, O: Write, E: Write>(
-    rt: &R,
-    console: &Console<O, E>,
-    groups: &mut [Group],
-) -> Result<(), Stop> {
-    let mut asked = BTreeMap::new(console.alloc);
-    for group in groups.iter_mut() {
-        let mut roots = Vec::new(console.alloc);
-        for path in group.paths.iter() {
-            roots.push(root_of(rt, console, path.as_str(), &mut asked)?)?;
-        }
-        group.roots = roots;
-    }
-    Ok(())
 }
 
 // A folder on the way to workspaces, and whether none are in it.
@@ -1215,8 +1193,8 @@ pub fn find<R: Runtime + AllocGlobal, O: Write, E: Write>(
     Ok(Manifests { groups, status })
 }
 
-// The path of a file without links on the way; if the folder isn't there, the same path without `.` and `..`.
-fn real_path<R: Files + AllocGlobal>(rt: &R, path: &str) -> Result<String, AllocError> {
+/// The path of a file without links on the way; if the folder isn't there, the same path without `.` and `..`.
+pub fn real_path<R: Files + AllocGlobal>(rt: &R, path: &str) -> Result<String, AllocError> {
     let alloc = rt.alloc();
     if path == "-" {
         return String::from_str(alloc, path);
@@ -1246,6 +1224,8 @@ fn without_seen<R: Files + AllocGlobal>(
         mut above,
         mut others,
         roots,
+        is_walked,
+        over,
     } = group;
     let mut kept = Vec::new(alloc);
     let (mut kept_own, mut place) = (0usize, 0usize);
@@ -1273,6 +1253,8 @@ fn without_seen<R: Files + AllocGlobal>(
         above,
         others,
         roots,
+        is_walked,
+        over,
     })
 }
 
