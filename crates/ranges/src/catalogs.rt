@@ -46,6 +46,42 @@ pub fn shelve(alloc: Global, catalogs: &mut Catalogs, entry: &Entry) -> Result<(
     Ok(())
 }
 
+/// A part of the catalogs of pnpm-workspace.yaml that can't be read.
+#[derive(Drop)]
+pub struct Gap {
+    /// The name of the catalog; empty if it's all of them.
+    catalog: String,
+    /// The name of the package; empty if it's all of the catalog.
+    package: String,
+}
+
+impl Gap {
+    /// The part that a mistake is in, if it is in one.
+    pub fn of(alloc: Global, entry: &Entry) -> Result<Option<Gap>, AllocError> {
+        let (object, name) = (entry.object.as_str(), entry.name.as_str());
+        let is_mistake = matches!(entry.kind, Kind::Mistake(_));
+        let (catalog, package) = match (entry.depth, object) {
+            (_, _) if !is_mistake => return Ok(None),
+            (0, _) if name == "catalog" => (name, ""),
+            (0, _) if name == "catalogs" => ("", ""),
+            (1, "catalog") => (object, name),
+            (1, "catalogs") => (catalog_name(name), ""),
+            (2, _) => (catalog_name(object), name),
+            (_, _) => return Ok(None),
+        };
+        Ok(Some(Gap {
+            catalog: String::from_str(alloc, catalog)?,
+            package: String::from_str(alloc, package)?,
+        }))
+    }
+
+    /// Whether it may hold what a catalog has for a package.
+    pub fn covers(&self, catalog: &str, package: &str) -> bool {
+        let (own, name) = (self.catalog.as_str(), self.package.as_str());
+        (own.is_empty() || own == catalog_name(catalog)) && (name.is_empty() || name == package)
+    }
+}
+
 /// What a catalog has for a package.
 pub fn text_in<'c>(catalogs: &'c Catalogs, catalog: &str, name: &str) -> Option<&'c str> {
     let catalog = catalog_name(catalog);

@@ -1,6 +1,6 @@
 //! What the files of a workspace say of one another: the names and versions of its packages, and pnpm's catalogs.
 
-use crate::catalogs::{Catalogs, catalog_name, shelve, text_in};
+use crate::catalogs::{Catalogs, Gap, catalog_name, shelve, text_in};
 use crate::walking::{Group, members_of, split_path, without_mark};
 use answers::asking::{Answer, Problem};
 use answers::questions::matches;
@@ -38,6 +38,8 @@ enum Workspace {
 pub struct Known {
     workspace: Workspace,
     catalogs: Catalogs,
+    /// What can't be read of the catalogs.
+    gaps: Vec<Gap>,
     /// The versions of packages, by name.
     versions: BTreeMap<String, String>,
     /// How many workspaces have a name; the root of all isn't counted.
@@ -108,12 +110,25 @@ fn is_match(alloc: Global, range: &str, version: &str) -> Result<bool, AllocErro
     }
 }
 
+// Whether an entry of pnpm-workspace.yaml is a mistake by which the list of packages can't be read, or not all of it: one in that list, or
+// one at which the YAML of the file isn't read on.
+fn hides_packages(entry: &Entry) -> bool {
+    let (object, name) = (entry.object.as_str(), entry.name.as_str());
+    let is_there = match entry.depth {
+        0 => matches!(name, "" | "packages"),
+        1 => object == "packages",
+        _ => false,
+    };
+    is_there && matches!(entry.kind, Kind::Mistake(_))
+}
+
 impl Known {
     /// Nothing so far.
     pub fn new(alloc: Global) -> Known {
         Known {
             workspace: Workspace::None,
             catalogs: BTreeMap::new(alloc),
+            gaps: Vec::new(alloc),
             versions: BTreeMap::new(alloc),
             names: BTreeMap::new(alloc),
             direct: None,
@@ -150,17 +165,17 @@ impl Known {
 
     // Learns what a file says.
     fn learn(&mut self, alloc: Global, path: &str, entries: &[Entry]) -> Result<(), AllocError> {
-        let is_mistaken = entries
-            .iter()
-            .any(|entry| matches!(entry.kind, Kind::Mistake(_)));
         if path.ends_with(WORKSPACE) {
-            self.workspace = if is_mistaken {
+            self.workspace = if entries.iter().any(hides_packages) {
                 Workspace::None
             } else {
                 Workspace::Pnpm
             };
             for entry in entries {
                 shelve(alloc, &mut self.catalogs, entry)?;
+                if let Some(gap) = Gap::of(alloc, entry)? {
+                    self.gaps.push(gap)?;
+                }
             }
         } else if let Some(name) = text_of(entries, Kind::Name)
             && let Some(version) = text_of(entries, Kind::Version)
@@ -212,7 +227,8 @@ impl Known {
         catalog: &str,
         name: &str,
     ) -> Result<Option<String>, AllocError> {
-        if text_in(&self.catalogs, catalog, name).is_some() {
+        let is_unread = self.gaps.iter().any(|gap| gap.covers(catalog, name));
+        if is_unread || text_in(&self.catalogs, catalog, name).is_some() {
             return Ok(None);
         }
         let catalog = match catalog_name(catalog) {
