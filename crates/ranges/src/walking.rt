@@ -355,24 +355,24 @@ fn read_above<R: Runtime + AllocGlobal>(
 
 // ---- folders
 
-// What is left out of a folder: what git ignores, and what the arguments exclude.
+// What is left out of a folder: what git and .ignore ignore, and what the arguments exclude.
 #[derive(Drop)]
 struct Left {
     ignored: Vec<Ignored>,
     /// How many lines, the first, are of outer repositories, and don't count.
     outer: usize,
     excluded: Vec<Ignored>,
-    /// Whether what git ignores counts.
-    is_of_git: bool,
+    /// Whether the files of folders say what is ignored.
+    has_files: bool,
 }
 
 impl Left {
-    fn new(ignored: Vec<Ignored>, excluded: Vec<Ignored>, is_of_git: bool) -> Left {
+    fn new(ignored: Vec<Ignored>, excluded: Vec<Ignored>, has_files: bool) -> Left {
         Left {
             ignored,
             outer: 0,
             excluded,
-            is_of_git,
+            has_files,
         }
     }
 
@@ -412,12 +412,15 @@ fn excluded(alloc: Global, patterns: &[&str]) -> Result<Vec<Ignored>, AllocError
     Ok(all)
 }
 
-// Lists a folder, by the order of names, but for what is left out, also by its own .gitignore.
+// Lists a folder, by the order of names, but for what is left out, also by its own .gitignore and .ignore.
 fn list<R: Runtime + AllocGlobal>(rt: &R, folder: &str, left: &mut Left) -> io::Result<Folder> {
     let alloc = rt.alloc();
-    if left.is_of_git {
-        let file = joined(alloc, folder, ".gitignore")?;
-        read_ignored(rt, file.as_str(), folder, "", &mut left.ignored)?;
+    if left.has_files {
+        // The lines of .ignore come last, and so count more.
+        for name in [".gitignore", ".ignore"] {
+            let file = joined(alloc, folder, name)?;
+            read_ignored(rt, file.as_str(), folder, "", &mut left.ignored)?;
+        }
     }
     let mut held = Folder {
         manifests: Vec::new(alloc),
