@@ -1162,7 +1162,7 @@ pub fn find<R: Runtime + AllocGlobal, O: Write, E: Write>(
         if !found.above.is_empty() && excludes.is_empty() {
             add_siblings(rt, console, &mut found)?;
         }
-        all.status = with_something(console, ".", &found, status, NONE_HERE);
+        all.status = with_something_here(rt, console, &found, status)?;
         all.groups.push(found)?;
     }
     for file in files.unwrap_or(&[]) {
@@ -1284,6 +1284,42 @@ fn without_repeated<R: Files + AllocGlobal>(
 // What is said of this folder, where nothing is named.
 const NONE_HERE: &str =
     "no package.json, deno.json, import_map.json or pnpm-workspace.yaml in this folder; to look below it too, name it: `.`";
+
+// The path of the nearest manifest above this folder, if there is one.
+fn nearest_above<R: Files + AllocGlobal>(rt: &R) -> Result<Option<String>, Stop> {
+    let real = match fs::canonicalize(rt, ".") {
+        Ok(real) => real,
+        Err(error) if error.kind() == ErrorKind::OutOfMemory => return Err(Stop::OutOfMemory),
+        Err(_) => return Ok(None),
+    };
+    let mut folder = String::from_str(rt.alloc(), "..")?;
+    for _ in names_of(rt.alloc(), real.as_str())?.iter() {
+        let mut manifests = manifests_at(rt, folder.as_str())?;
+        if let Some(last) = manifests.pop() {
+            return Ok(Some(last));
+        }
+        folder.push_str("/..")?;
+    }
+    Ok(None)
+}
+
+// Reports that this folder has no manifests, as `with_something` does, and where the nearest one above it is.
+fn with_something_here<R: Files + AllocGlobal, O: Write, E: Write>(
+    rt: &R,
+    console: &mut Console<O, E>,
+    found: &Group,
+    status: Status,
+) -> Result<Status, Stop> {
+    if !found.paths.is_empty() || status != Status::Answered {
+        return Ok(status);
+    }
+    let status = console.complain(".", NONE_HERE);
+    if let Some(path) = nearest_above(rt)? {
+        let path = Shown(path.as_str());
+        let _ = writeln!(console.err, "  = the nearest one above is {path}");
+    }
+    Ok(status)
+}
 
 // What is said of a folder that is named.
 const NONE_BELOW: &str =
