@@ -1162,7 +1162,7 @@ pub fn find<R: Runtime + AllocGlobal, O: Write, E: Write>(
         if !found.above.is_empty() && excludes.is_empty() {
             add_siblings(rt, console, &mut found)?;
         }
-        all.status = with_something_here(rt, console, &found, status)?;
+        all.status = with_something_here(rt, console, &found, status, excludes)?;
         all.groups.push(found)?;
     }
     for file in files.unwrap_or(&[]) {
@@ -1285,6 +1285,21 @@ fn without_repeated<R: Files + AllocGlobal>(
 const NONE_HERE: &str =
     "no package.json, deno.json, import_map.json or pnpm-workspace.yaml in this folder; to look below it too, name it: `.`";
 
+// What is said of this folder where --exclude leaves out what it has.
+const EXCLUDED: &str = "--exclude leaves out every manifest of this folder";
+
+// Whether --exclude leaves out a manifest of this folder.
+fn has_excluded<R: Files + AllocGlobal>(rt: &R, excludes: &[&str]) -> Result<bool, AllocError> {
+    let patterns = excluded(rt.alloc(), excludes)?;
+    for name in &NAMES {
+        let is_there = fs::exists(rt, name).unwrap_or(false);
+        if is_there && is_ignored(rt.alloc(), patterns.as_slice(), name, false)? {
+            return Ok(true);
+        }
+    }
+    Ok(false)
+}
+
 // The path of the nearest manifest above this folder, if there is one.
 fn nearest_above<R: Files + AllocGlobal>(rt: &R) -> Result<Option<String>, Stop> {
     let real = match fs::canonicalize(rt, ".") {
@@ -1309,9 +1324,13 @@ fn with_something_here<R: Files + AllocGlobal, O: Write, E: Write>(
     console: &mut Console<O, E>,
     found: &Group,
     status: Status,
+    excludes: &[&str],
 ) -> Result<Status, Stop> {
     if !found.paths.is_empty() || status != Status::Answered {
         return Ok(status);
+    }
+    if has_excluded(rt, excludes)? {
+        return Ok(console.complain(".", EXCLUDED));
     }
     let status = console.complain(".", NONE_HERE);
     if let Some(path) = nearest_above(rt)? {
