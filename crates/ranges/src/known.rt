@@ -313,9 +313,7 @@ impl Known {
         let message = format!(in alloc; "{who}: its version in the workspace is {version}")?;
         Ok(Some(message))
     }
-}
 
-impl Known {
     /// The version of a workspace that a manifest asks a registry for by its name, if the range doesn't match that version.
     pub fn other_version(&self, alloc: Global, entry: &Entry) -> Result<Option<&str>, AllocError> {
         let (name, text) = (entry.name.as_str(), entry.text.as_str());
