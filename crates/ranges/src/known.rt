@@ -483,12 +483,16 @@ pub fn known_of<R: Files + AllocGlobal>(rt: &R, group: &Group) -> Result<Known, 
         }
     }
     for (place, path) in group.paths.iter().chain(group.others.iter()).enumerate() {
+        let is_root = place < group.own;
+        // In a workspace's folder pnpm's list is of another root, or of none.
+        if !is_root && path.as_str().ends_with(WORKSPACE) {
+            continue;
+        }
         let entries = entries_of(rt, path.as_str())?;
         known.learn(alloc, path.as_str(), entries.as_slice())?;
         if !path.as_str().ends_with("package.json") {
             continue;
         }
-        let is_root = place < group.own;
         if is_root {
             known.direct = Some(direct_of(alloc, entries.as_slice())?);
         }
