@@ -96,9 +96,9 @@ def build_over(crate, made, *flags, toolchain=None, keeps=False, **how):
 
 
 @contextlib.contextmanager
-def keeping_toolchain():
-    """A toolchain folder that is the kit's but for its clang, which copies the module that rattle compiles to MODULE. It's removed
-    afterwards, since `rt ci` rejects links below the project."""
+def keeping_toolchain(module=MODULE):
+    """A toolchain folder that is the kit's but for its clang, which copies the module that rattle compiles. It's removed afterwards, since
+    `rt ci` rejects links below the project."""
     kits = kit() / "toolchain"
     with tempfile.TemporaryDirectory() as name:
         folder = pathlib.Path(name)
@@ -107,7 +107,7 @@ def keeping_toolchain():
         for tool in ("llvm-ar", "ld.lld"):
             (folder / "bin" / tool).symlink_to(kits / "bin/clang")
         clang = folder / "bin/clang"
-        clang.write_text(KEEPING_CLANG.format(module=MODULE, clang=kits / "bin/clang"))
+        clang.write_text(KEEPING_CLANG.format(module=module, clang=kits / "bin/clang"))
         clang.chmod(0o755)
         yield folder
 
