@@ -59,8 +59,7 @@ function isRefused(text) {
   }
   if (Array.isArray(manifest)) return true
   const asked = SECTIONS.flatMap((section) => Object.entries(manifest[section] ?? {}))
-  const isOdd = manifest.version && semver.valid(manifest.version.trim(), true) === null
-  if (isOdd || [...asked, ...overridden(manifest.overrides ?? {})].some(([name, text]) => typeOf(name, text) === 'refused')) return true
+  if ([...asked, ...overridden(manifest.overrides ?? {})].some(([name, text]) => typeOf(name, text) === 'refused')) return true
   try {
     resolve(manifest)
     return false

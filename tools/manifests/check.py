@@ -6,7 +6,7 @@ crates/ranges), which builds the program.
 
 specifiers.jsonl has texts of dependencies, and manifests.jsonl has whole files, each with npm's answer behind it: the type that
 npm-package-arg gives the dependency, or `refused`. The first line of each has the versions of the modules that answered. A manifest is
-refused if npm refuses a dependency, an override, the workspaces or the version, or if it isn't JSON. The texts were written for this table. The answers
+refused if npm refuses a dependency, an override or the workspaces, or if it isn't JSON. The texts were written for this table. The answers
 were taken by ask.mjs, which asks the modules npm-package-arg, semver, arborist and map-workspaces that npm brings along; --take takes them anew, of the npm on this
 machine. Where node and npm are here, and the modules have these versions, they are asked each time as well, and must answer the same.
 

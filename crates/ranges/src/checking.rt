@@ -644,11 +644,14 @@ fn check_version<O: Write, E: Write>(
         return Ok(());
     }
     let errors = PackageErrors::Range(version_errors(console.alloc, text)?);
-    let finding = Finding {
-        errors: Some(&errors),
-        ..Finding::new(Cause::Refused, "not a version")
-    };
-    report.add(console, entry, finding)
+    let message = "not a version, so the package can't be published";
+    report.add_with(
+        console,
+        entry,
+        Cause::Rule(Rule::OddVersion),
+        message,
+        &errors,
+    )
 }
 
 // Whether SemVer lets a version be written so.

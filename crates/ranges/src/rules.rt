@@ -165,8 +165,8 @@ pub const RULES: [About; COUNT] = [
         rule: Rule::OddVersion,
         name: "odd-version",
         level: Level::Warning,
-        finds: "The pre-release of a version is itself a higher version, as of `1.0.0-2.0.0`.",
-        help: "Write spaces around the `-` if you mean a range: `1.0.0 - 2.0.0`.",
+        finds: "The version of a package isn't valid, or the pre-release of a version is itself a higher version, as of `1.0.0-2.0.0`.",
+        help: "Write three numbers, or spaces around the `-` if you mean a range: `1.0.0 - 2.0.0`.",
     },
     About {
         rule: Rule::OtherVersion,
