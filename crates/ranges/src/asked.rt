@@ -3,8 +3,8 @@
 use crate::apart::first_apart;
 use crate::catalogs::{Catalogs, resolved, shelve};
 use crate::findings::Position;
-use crate::fixing::range_of_specifier;
 use crate::known::is_own;
+use crate::rewriting::range_of_specifier;
 use crate::walking::{Group, Manifests, find, read_file, without_mark};
 use answers::asking::Problem;
 use answers::object::Object;

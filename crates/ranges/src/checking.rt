@@ -7,13 +7,11 @@ use crate::advice::{
 use crate::errors::{errors_at_end, errors_of, message_of};
 use crate::explaining::has_left_out;
 use crate::findings::{Cause, Finding, Format, Position, Report};
-use crate::fixing::{
-    Rewritten, apply, is_rewritten, is_tag, pieces_of, pins_of, print_diffs, rewrite, set_above,
-    write_all,
-};
+use crate::fixing::{Rewritten, apply, pins_of, print_diffs, rewrite, set_above, write_all};
 use crate::known::{Known, Manager, is_of_npm, is_own, known_of, linked_by};
 use crate::overriding::Overrides;
 use crate::projects::by_project;
+use crate::rewriting::{is_rewritten, is_tag, pieces_of};
 use crate::rules::{Level, Levels, Rule, Unknown};
 use crate::walking::{Group, Manifests, find, path_in_repository, read_file, without_mark};
 use answers::asking::{Answer, Problem};

@@ -2,7 +2,7 @@
 
 use crate::advice::notes;
 use crate::comparing::{Line, print_json, print_tag, reject_line};
-use crate::fixing::pieces_of;
+use crate::rewriting::pieces_of;
 use answers::explained::{Explanation, Matches, Meaning, Piece, explain};
 use answers::explained_json::ranges_explained;
 use deno_semver::{PreRelease, RangeBound, Version, VersionBound, VersionBoundKind, VersionRange};

@@ -1,7 +1,7 @@
 //! What `ranges check` finds, and how it is printed.
 
 use crate::errors::{add_first, first_hint, first_place, print_errors};
-use crate::fixing::replacement;
+use crate::rewriting::replacement;
 use crate::rules::{Level, Levels, RULES, Rule};
 use answers::object::Object;
 use clap::ArgMatches;

@@ -1,7 +1,7 @@
 //! What the files of a workspace say of one another: the names and versions of its packages, and pnpm's catalogs.
 
 use crate::catalogs::{Catalogs, Gap, catalog_name, shelve, text_in};
-use crate::walking::{Group, members_of, split_path, without_mark};
+use crate::walking::{Group, entries_of, members_of, split_path};
 use answers::asking::{Answer, Problem};
 use answers::questions::matches;
 use deno_semver::PreRelease;
@@ -9,12 +9,11 @@ use semver_req::common::values::Flavour;
 use std::alloc::{AllocError, Global};
 use std::collections::{BTreeMap, HashSet};
 use std::fs;
-use std::io::{ErrorKind, Write};
+use std::io::Write;
 use std::rt::{Files, Runtime};
 use terminal::console::{Console, Stop};
 use terminal::entry::Entry;
 use terminal::hints::behind_protocol;
-use terminal::manifest::entries;
 use terminal::npm::{
     Source, ends_in_key, is_foreign, is_package_name, name_and_range, renamed, source_of,
 };
@@ -344,15 +343,6 @@ pub fn is_own(text: &str) -> bool {
         None => asked,
     };
     matches!(range, "^" | "~" | "*") || range.starts_with(['.', '/'].as_slice())
-}
-
-/// The entries of a file; none if it can't be read.
-pub fn entries_of<R: Files + AllocGlobal>(rt: &R, path: &str) -> Result<Vec<Entry>, Stop> {
-    match fs::read_to_string(rt, path) {
-        Ok(text) => Ok(entries(rt.alloc(), path, without_mark(text.as_str()))?),
-        Err(error) if error.kind() == ErrorKind::OutOfMemory => Err(Stop::OutOfMemory),
-        Err(_) => Ok(Vec::new(rt.alloc())),
-    }
 }
 
 // Whose workspace a group is, by the manifests of its folder and of those above.

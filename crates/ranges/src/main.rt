@@ -25,6 +25,7 @@ mod overriding;
 mod packaged;
 mod projects;
 mod relative;
+mod rewriting;
 mod rules;
 mod scanned;
 mod stepping;

@@ -1,8 +1,8 @@
 //! The projects whose manifests were found together, in a folder and below it: each is a root with its workspaces.
 
-use crate::known::entries_of;
 use crate::walking::{
-    Group, Roots, is_manifest, is_of_same, manifests_above, real_path, split_path,
+    Group, Roots, Setting, entries_of, is_manifest, is_of_same, manifests_above, real_path,
+    split_path,
 };
 use std::alloc::{AllocError, Global};
 use std::collections::{BTreeMap, HashMap};
@@ -59,13 +59,6 @@ fn add_all(all: &mut Vec<String>, paths: &[String]) -> Result<(), AllocError> {
         all.push(path.clone()?)?;
     }
     Ok(())
-}
-
-/// A level that a manifest sets for others.
-#[derive(Drop)]
-pub struct Setting {
-    pub rule: String,
-    pub level: String,
 }
 
 // Adds a level.

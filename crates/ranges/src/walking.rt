@@ -1,8 +1,6 @@
 //! The manifests of folders and of workspaces, and the files of arguments.
 
 use crate::findings::Position;
-use crate::known::entries_of;
-use crate::projects::Setting;
 use answers::asking::Problem;
 use answers::reading;
 use patterns::ignored::{Ignored, is_ignored};
@@ -16,6 +14,8 @@ use std::io::{BufRead, ErrorKind, Read, Write};
 use std::rt::{Files, Runtime};
 use std::{env, fs, io, str};
 use terminal::console::{Console, Status, Stop};
+use terminal::entry::Entry;
+use terminal::manifest::entries;
 use terminal::sections::Kind;
 use terminal::shown::{Quoted, Shown};
 
@@ -37,6 +37,13 @@ struct Folder {
     links: Vec<String>,
     /// Whether a name in it isn't valid UTF-8.
     has_other: bool,
+}
+
+/// A level that a manifest sets for others.
+#[derive(Drop)]
+pub struct Setting {
+    pub rule: String,
+    pub level: String,
 }
 
 /// Manifests that were found together: in a folder and below it, or one that was given.
@@ -119,6 +126,15 @@ fn joined(alloc: Global, folder: &str, name: &str) -> Result<String, AllocError>
         format!(in alloc; "{folder}{name}")
     } else {
         format!(in alloc; "{folder}/{name}")
+    }
+}
+
+/// The entries of a file; none if it can't be read.
+pub fn entries_of<R: Files + AllocGlobal>(rt: &R, path: &str) -> Result<Vec<Entry>, Stop> {
+    match fs::read_to_string(rt, path) {
+        Ok(text) => Ok(entries(rt.alloc(), path, without_mark(text.as_str()))?),
+        Err(error) if error.kind() == ErrorKind::OutOfMemory => Err(Stop::OutOfMemory),
+        Err(_) => Ok(Vec::new(rt.alloc())),
     }
 }
 
