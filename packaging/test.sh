@@ -314,7 +314,7 @@ try_packages() {
         [ -f "$root/deno_semver_proved-$version/tests/$name.rs" ] || fail "the Rust crate has no tests/$name.rs"
     done
     try_javascript
-    follow 'A terminal' 1.10.0
+    follow 'A terminal' 1.10.0 "echo '{\"dependencies\": {\"a\": \"^1\"}}' >package.json"
     follow Python "['1.10.0']"
     if has npm && [ -e "$root/first/deno-semver-$version.tgz" ]; then follow JavaScript "[ '1.10.0' ]"; fi
     if has cargo; then follow Rust true 'cargo init --quiet --name reader' "cp $root/main.rs src && cargo run --offline --quiet"; fi

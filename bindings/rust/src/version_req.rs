@@ -92,7 +92,7 @@ impl VersionReq {
         VersionReq::parse(Grammar::Strict, text).map_err(|source| VersionReqSpecifierParseError { source })
     }
 
-    /// Parses a requirement by npm's grammar.
+    /// Parses a requirement by npm's grammar, which leaves out invalid alternatives: [`explain`](crate::explain::explain) returns these.
     pub fn parse_from_npm(text: &str) -> Result<VersionReq, NpmVersionReqParseError> {
         VersionReq::parse(Grammar::Npm, text).map_err(|source| NpmVersionReqParseError { source })
     }
