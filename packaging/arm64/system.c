@@ -1,6 +1,7 @@
-/* The programs' arguments, environment and errno on arm64: the kit has these calls for x86-64 alone. They're trusted, as the kit's are;
- * the kit's crate `os` states what they do. */
+/* The programs' arguments, environment, folders and errno on arm64: the kit has these calls for x86-64 alone. They're trusted, as the kit's
+ * are; the kit's crate `os` states what they do. Not every kit's library asks for each. */
 #include <errno.h>
+#include <fcntl.h>
 #include <stdint.h>
 #include <stdlib.h>
 #include <string.h>
@@ -11,6 +12,7 @@ ssize_t rattle_env(const uint8_t *name, uint8_t *out, size_t room);
 ssize_t rattle_env_at(size_t place, uint8_t *out, size_t room);
 int32_t rattle_errno(void);
 void rattle_set_errno(int32_t error);
+int32_t rattle_open_dir_at(int32_t folder, const uint8_t *name);
 
 extern char **environ;
 
@@ -55,4 +57,9 @@ int32_t rattle_errno(void) {
 
 void rattle_set_errno(int32_t error) {
     errno = error;
+}
+
+/* Opens the folder that a name leads to from an open one, or from the working folder. The name ends with a zero byte, and not in a link. */
+int32_t rattle_open_dir_at(int32_t folder, const uint8_t *name) {
+    return openat(folder, (const char *)name, O_RDONLY | O_DIRECTORY | O_NOFOLLOW | O_CLOEXEC);
 }
