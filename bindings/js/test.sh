@@ -5,7 +5,7 @@
 #
 # usage: test.sh [speed]; with speed it only prints the times of calls, beside node-semver's where that is installed.
 # OTHER_NODE is the path of another Node, of Node 18 for example, in which the tests run too, but for the time of an import.
-# NODE_SEMVER_SOURCE is a folder of node-semver's sources with its own tests, of Debian's by `apt-get source node-semver`.
+# NODE_SEMVER_SOURCE is a folder of node-semver's sources with its own tests; without it, Debian's are fetched from where apt gets packages.
 set -e
 here=$(cd "$(dirname "$0")" && pwd)
 out=$here/out
@@ -40,12 +40,27 @@ compare() {
     fi
 }
 
+# Fetches node-semver's sources from Debian's archive, as apt knows it, and unpacks them if their checksum is right.
+fetch_sources() {
+    version=7.6.1 sum=6696d30e64d2243a6d9863468eaf01878a60ad43e7b792b487ed3123d0b1270f
+    archive=$out/node-semver-$version.tar.gz
+    has curl && has apt-get || return 1
+    for mirror in $(apt-get indextargets --format '$(REPO_URI)' 'Created-By: Packages' | sort -u); do
+        echo "$sum  $archive" | sha256sum --check --status 2>/dev/null && break
+        curl -sf -m 20 -o "$archive" "${mirror%/}/pool/main/n/node-semver/node-semver_$version+~7.5.8.orig.tar.gz" || continue
+    done
+    echo "$sum  $archive" | sha256sum --check --status 2>/dev/null || return 1
+    tar -C "$out" -xzf "$archive"
+    NODE_SEMVER_SOURCE=$out/node-semver-$version
+}
+
 # node-semver's own tests, which its packages lack.
 suite() {
+    [ -n "$NODE_SEMVER_SOURCE" ] || fetch_sources || true
     if [ -d "$NODE_SEMVER_SOURCE/test" ]; then
         node "$here/tests/suite.mjs" "$NODE_SEMVER_SOURCE"
     else
-        echo "JavaScript: no sources of node-semver in NODE_SEMVER_SOURCE, so its own tests aren't run"
+        echo "JavaScript: node-semver's sources can't be fetched, and NODE_SEMVER_SOURCE names none, so its own tests aren't run"
     fi
 }
 
