@@ -3,6 +3,7 @@
 //! The proofs use only the public contracts of the crates below, and none of their lemmas.
 #![tactic(auto)]
 
+pub mod comparators;
 pub mod import_map;
 pub mod lockfile;
 pub mod overlap;
