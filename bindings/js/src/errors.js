@@ -94,8 +94,8 @@ function firstPlace(code, source) {
 }
 
 /** An error of the library's JSON, with indexes of the text instead of bytes. */
-export function withIndexes(error, indexes) {
-  return { ...error, start: indexes[error.start], end: indexes[error.end] };
+export function withIndexes({ message, start, end, expected }, indexes) {
+  return { message, start: indexes[start], end: indexes[end], expected };
 }
 
 /** What is wrong with a text of a kind; null where it's valid. */
@@ -108,13 +108,14 @@ function messageOf(kind, grammar, source) {
 
 /** Where an invalid text goes wrong, and what could be there. */
 function placeOf(kind, grammar, source) {
-  return { expected: [], ...(isWellFormed(source) && kind.place?.(grammar, source)) };
+  const { start, end, expected = [] } = (isWellFormed(source) && kind.place?.(grammar, source)) || {};
+  return start === undefined ? { expected } : { start, end, expected };
 }
 
 /** Why a text of a kind is invalid; null where it's valid. */
 export function reasonOf(kind, grammar, source) {
   const message = messageOf(kind, grammar, source);
-  return message === null ? null : { ...placeOf(kind, grammar, source), message };
+  return message === null ? null : { message, ...placeOf(kind, grammar, source) };
 }
 
 /** The error that a text of a kind is invalid; `index` is its place in a list. */
