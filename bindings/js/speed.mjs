@@ -3,8 +3,8 @@
 //     node speed.mjs [--brief] [NODE_SEMVER]
 //
 // A time is the best of five runs, in which both are asked in turn. The status is 1 where a call takes longer than node-semver's in each of
-// three tries, or finding the place of an error longer than PARSES parses of a valid range of that length. With --brief each is asked less
-// often.
+// three tries, an import IMPORT times as long, or finding the place of an error longer than PARSES parses of a valid range of that length.
+// With --brief each is asked less often.
 
 import { createRequire } from 'node:module';
 import { performance } from 'node:perf_hooks';
@@ -19,6 +19,7 @@ const TRIES = 3;
 const CALLS = isBrief ? 10_000 : 200_000;
 const LIST = isBrief ? 10_000 : 100_000;
 const PARSES = 6;
+const IMPORT = 1.25;
 const other = folder && createRequire(import.meta.url)(folder);
 const version = folder && createRequire(import.meta.url)(`${folder}/package.json`).version;
 
@@ -114,7 +115,7 @@ function imports() {
 }
 
 print('', 'here', version && `node-semver ${version}`);
-row('import, in a fresh process', imports, (time) => shown(time, 'ms', 1));
+row('import, in a fresh process', imports, (time) => shown(time, 'ms', 1), IMPORT);
 each('a version and a held range', (i) => range.matches(item(i)), there((i) => others.test(item(i))));
 both(each, 'two texts, satisfies', (library, i) => library.satisfies(item(i), RANGE));
 each('two texts, matches', (i) => semver.matches(RANGE, item(i)));
