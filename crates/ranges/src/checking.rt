@@ -1005,6 +1005,10 @@ fn check_entry<'e, O: Write, E: Write>(
         Kind::OddSection(message) => {
             report.add(console, entry, Finding::by(Rule::OddSection, message))
         }
+        // npm installs a package whatever its version is.
+        Kind::Mistake(message) if entry.depth == 0 && entry.name.as_str() == "version" => {
+            report.add(console, entry, Finding::by(Rule::OddVersion, message))
+        }
         Kind::Mistake(message) => report.add(console, entry, Finding::new(Cause::Refused, message)),
         Kind::Workspace if file.is_own && file.unmatched.contains(&entry.text) => {
             let message = "no folder with a manifest matches it";
