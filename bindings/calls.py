@@ -1,36 +1,17 @@
 #!/usr/bin/env python3
-"""Writes docs/CALLS.md from calls.tsv: which call answers a question in each language, in `ranges` and in node-semver.
+"""Writes README's table of calls from calls.tsv: which call answers a question in each language, in `ranges` and in node-semver.
 
     bindings/calls.py [--check]
 
-Each name must be one that the language has, and each call of C, function of Python and JavaScript, and command of `ranges` must stand in a
-row, or in OTHERS, which the page lists; what differs is printed, and the status is 1 then. With --check nothing is written, and a page that is stale is reported as well."""
+Each name must be one that the language has, and each call of C, function of Python, Rust and JavaScript, and command of `ranges` must stand in
+a row; what differs is printed, and the status is 1 then. With --check nothing is written, and a table that is stale is reported as well."""
 import pathlib
 import re
 import sys
 
 HERE = pathlib.Path(__file__).resolve().parent
 TOP = HERE.parent
-PAGE = TOP / "docs/CALLS.md"
-HEAD = """# Which call answers which question
-
-Each row has a question, and the calls that answer it in each language, in `ranges` and in node-semver. Put `semver_` before a name of C.
-These calls of C take handles: `package_read`, `scan`, `scans_read`, `version_compare`, `version_key`, `version_order`, and those that begin
-with `req_` or `list_`. A name with a dot is a method. `bindings/calls.py` writes this page.
-
-The table has every call of C, every function of Python and of JavaScript, and every command of `ranges`, except these:
-
-%s
-Of Rust, of node-semver and of methods, the table has only those that answer one of its questions.
-
-"""
-# Calls of C that ask no question of the table, and commands that the page leaves out; the page lists both.
-OTHERS = {
-    "C": {"api", "req_read", "version_read", "list_read", "req_free", "version_free", "list_free", "scans_free", "req_text", "req_equal", "req_order", "version_text"},
-    "Python": set(),
-    "JavaScript": set(),
-    "ranges": {"asked", "normal", "outdated"},
-}
+PAGE = TOP / "README.md"
 
 
 def found(pattern, *paths):
@@ -55,10 +36,10 @@ def names_of():
     return {
         "C": found(r"\bsemver_(\w+)\(", HERE / "c/semver.h"),
         "Python": found(r'^    "(\w+)",', python[0]) | members(python, "class ", r"^    def (\w+)"),
-        "Rust": found(r"\bfn (\w+)", *rust),
+        "Rust": found(r"\b(?:fn|struct) (\w+)", *rust),
         "JavaScript": found(r"^export (?:function|class) (\w+)", types) | members([types], "export class ", r"^  (?:get )?(\w+)(?:\(|:)"),
         "ranges": set(commands.split()),
-        "node-semver": found(r"^export function (\w+)", compat),
+        "node-semver": found(r"^export (?:function|class) (\w+)", compat),
     }
 
 
@@ -67,6 +48,7 @@ def wanted(names):
     return {
         "C": names["C"],
         "Python": {name for name in names["Python"] if name.islower() and "." not in name},
+        "Rust": found(r"^pub fn (\w+)", *sorted((HERE / "rust/src").glob("*.rs"))),
         "JavaScript": {name for name in names["JavaScript"] if name[0].islower() and "." not in name},
         "ranges": names["ranges"],
     }
@@ -74,17 +56,12 @@ def wanted(names):
 
 def faults(rows):
     names = names_of()
-    stated = {language: {it for row in rows for it in row[language]} for language in names}
+    # A name of Rust is known by its last part.
+    stated = {language: {it.split("::")[-1] for row in rows for it in row[language]} for language in names}
     for language, stands in stated.items():
-        # A name of Rust is known by its last part.
-        yield from (f"{language} has no {it}" for it in stands if (it.split("::")[-1] if language == "Rust" else it) not in names[language])
+        yield from (f"{language} has no {it}" for it in sorted(stands - names[language]))
     for language, all_of in wanted(names).items():
-        yield from (f"no row has {it} of {language}" for it in sorted(all_of - stated[language] - OTHERS[language]))
-
-
-def left_out():
-    """The list of the names that stand in no row."""
-    return "".join(f"- of {'`ranges`' if language == 'ranges' else language}: {', '.join(f'`{it}`' for it in sorted(names))}\n" for language, names in OTHERS.items() if names)
+        yield from (f"no row has {it} of {language}" for it in sorted(all_of - stated[language]))
 
 
 def table(heads, rows):
@@ -99,11 +76,13 @@ def main():
     heads, *lines = [line.split("\t") for line in (HERE / "calls.tsv").read_text().splitlines()]
     rows = [dict(zip(heads, [line[0], *([it for it in cell.split(", ") if it] for cell in line[1:])])) for line in lines]
     problems = list(faults(rows))
-    made = HEAD % left_out() + table(heads, rows)
+    old = PAGE.read_text()
+    # The table is the last part of the page.
+    new = old[: old.index(f"| {heads[0]} |")] + table(heads, rows)
     if sys.argv[1:] != ["--check"]:
-        PAGE.write_text(made)
-    elif not PAGE.exists() or PAGE.read_text() != made:
-        problems.append("docs/CALLS.md is stale: run bindings/calls.py")
+        PAGE.write_text(new)
+    elif old != new:
+        problems.append("README's table of calls is stale: run bindings/calls.py")
     print(*problems, sep="\n", end="\n" * bool(problems))
     return bool(problems)
 

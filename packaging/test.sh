@@ -314,33 +314,37 @@ try_packages() {
         [ -f "$root/deno_semver_proved-$version/tests/$name.rs" ] || fail "the Rust crate has no tests/$name.rs"
     done
     try_javascript
-    follow 'A terminal' 1.10.0 "echo '{\"dependencies\": {\"a\": \"^1\"}}' >package.json"
-    follow Python "['1.10.0']"
-    if has npm && [ -e "$root/first/deno-semver-$version.tgz" ]; then follow JavaScript "[ '1.10.0' ]"; fi
-    if has cargo; then follow Rust true 'cargo init --quiet --name reader' "cp $root/main.rs src && cargo run --offline --quiet"; fi
+    follow 'a terminal' 1.10.0 "echo '{\"dependencies\": {\"a\": \"^1\"}}' >package.json"
+    follow Python 1.10.0
+    if has npm && [ -e "$root/first/deno-semver-$version.tgz" ]; then follow JavaScript 1.10.0; fi
+    if has cargo; then
+        # The crate's page has the program.
+        awk '$0 == "```" && inside { exit } inside; $0 == "```rust" { inside = 1 }' bindings/rust/README.md >"$root/main.rs"
+        follow Rust '^1.2.0 || 3' 'cargo init --quiet --name reader' "cp $root/main.rs src && cargo run --offline --quiet"
+    fi
 }
 
-# The blocks of this kind that README has under such a word, with the folder of the release.
-block() { # WORD KIND
-    awk -v word="**$1" -v kind="\`\`\`$2" '
-        index($0, "**") == 1 { within = index($0, word) == 1 }
-        $0 == "```" { inside = 0 }
-        within && inside
-        $0 == kind { inside = 1 }' README.md | sed "s|FOLDER|$root/first|"
+# The lines that README has for such a reader, with the folder of the release.
+lines_for() { # WORD
+    awk -v word="# For $1" '
+        index($0, "# For ") == 1 { within = index($0, word) == 1; next }
+        $0 == "" || $0 == "```" { within = 0 }
+        within' README.md | sed "s|FOLDER|$root/first|"
 }
 
 # Follows README from an empty folder to a first answer, the last line that its commands print. What they install for all users goes into a
 # folder. BEFORE and AFTER are commands that README leaves to the reader.
 follow() { # WORD WANTED [BEFORE AFTER]
-    mkdir -p "$root/local" "$root/reader/$1"
-    block "$1" rust >"$root/main.rs"
+    mkdir -p "$root/local" "$root/reader"
+    lines_for "$1" >"$root/reader.sh"
+    [ -s "$root/reader.sh" ] || fail "README has no lines for $1"
     {
         echo 'set -e; sudo() { [ "$1" = ldconfig ] || "$@"; }'
         echo "export PATH='$root/local/bin:$PATH' PIP_NO_INDEX=1 npm_config_offline=true; $3"
-        block "$1" sh | sed "s|/usr/local|$root/local|"
+        sed "s|/usr/local|$root/local|" "$root/reader.sh"
         echo "$4"
     } >"$root/lines"
-    got=$(cd "$root/reader/$1" && sh "$root/lines" 2>"$root/said" | tail -n 1)
+    got=$(cd "$(mktemp -d "$root/reader/XXXXXX")" && sh "$root/lines" 2>"$root/said" | tail -n 1)
     [ "$got" = "$2" ] || fail "README's lines for $1: $got, and not $2: $(cat "$root/said")"
 }
 
