@@ -7,6 +7,7 @@ const require = createRequire(process.argv[2] + '/')
 const npa = require('npm-package-arg')
 const semver = require('semver')
 const Node = require('@npmcli/arborist/lib/node.js')
+const { normalize } = require('read-package-json-fast')
 const { virtual } = require('@npmcli/map-workspaces')
 const SECTIONS = ['dependencies', 'devDependencies', 'peerDependencies', 'optionalDependencies']
 
@@ -36,9 +37,15 @@ function* rulesOf(set) {
   }
 }
 
+// What npm asks for on behalf of a package, by names and texts: of a name that several sections have it takes one.
+function askedBy(node) {
+  const edges = [...node.edgesOut.values()]
+  // npm asks for an optional peer only if the package isn't the root.
+  return edges.filter(({ type }) => type !== 'peerOptional' || !node.isRoot).map(({ name, rawSpec }) => [name, rawSpec])
+}
+
 // Stops where npm stops at overrides or workspaces. What it says only of a package that the tree has is asked here as if the tree had it.
-function resolve(manifest) {
-  const root = new Node({ path: '/tmp', pkg: manifest, loadOverrides: true })
+function resolve(manifest, root) {
   root.assertRootOverrides()
   const names = new Set(SECTIONS.flatMap((section) => Object.keys(manifest[section] ?? {})))
   for (const { name, keySpec, value, parent } of root.overrides ? rulesOf(root.overrides) : []) {
@@ -58,10 +65,13 @@ function isRefused(text) {
     return true
   }
   if (Array.isArray(manifest)) return true
-  const asked = SECTIONS.flatMap((section) => Object.entries(manifest[section] ?? {}))
-  if ([...asked, ...overridden(manifest.overrides ?? {})].some(([name, text]) => typeOf(name, text) === 'refused')) return true
   try {
-    resolve(manifest)
+    manifest = normalize(manifest)
+    const root = new Node({ path: '/tmp', pkg: manifest, loadOverrides: true })
+    const dependency = new Node({ name: 'p', parent: new Node({ path: '/tmp', pkg: {} }), pkg: manifest })
+    const asked = [...askedBy(root), ...askedBy(dependency), ...overridden(manifest.overrides ?? {})]
+    if (asked.some(([name, text]) => typeOf(name, text) === 'refused')) return true
+    resolve(manifest, root)
     return false
   } catch {
     return true

@@ -6,7 +6,7 @@ use crate::advice::{
 };
 use crate::errors::{errors_at_end, errors_of, message_of};
 use crate::explaining::has_left_out;
-use crate::findings::{Cause, Finding, Format, Position, Report};
+use crate::findings::{Aside, Cause, Finding, Format, Position, Report};
 use crate::fixing::{Rewritten, apply, pins_of, print_diffs, rewrite, set_above, write_all};
 use crate::known::{Known, Manager, is_of_npm, is_own, known_of, linked_by};
 use crate::overriding::Overrides;
@@ -741,8 +741,10 @@ fn check_sections<O: Write, E: Write>(
 struct Names<'e> {
     /// The last entry so far of each name that a section asks a registry for.
     asked: HashMap<&'e str, &'e Entry>,
-    /// The names of all peer dependencies.
+    /// The names that peerDependencies, dependencies and optionalDependencies have.
     peers: HashSet<&'e str>,
+    required: HashSet<&'e str>,
+    optional: HashSet<&'e str>,
     overrides: Overrides<'e>,
     /// The name of the file's own package, which may ask for an older version of itself.
     own: &'e str,
@@ -783,6 +785,76 @@ impl Checked<'_> {
     // Whether npm reads the file.
     fn is_of_npm(&self) -> bool {
         !self.path.ends_with(".yaml")
+    }
+
+    // Whether the file is a package.json, as standard input may be.
+    fn is_package(&self) -> bool {
+        self.path == "-" || self.path.ends_with("package.json")
+    }
+}
+
+// The names that a section has.
+fn names_in<'e>(
+    alloc: Global,
+    entries: &'e [Entry],
+    section: &str,
+) -> Result<HashSet<&'e str>, AllocError> {
+    let mut names = HashSet::new(alloc);
+    for entry in entries.iter().filter(|entry| entry.section == section) {
+        let _ = names.insert(entry.name.as_str())?;
+    }
+    Ok(names)
+}
+
+// What is said of a section of package.json that npm doesn't read.
+fn unread_by_npm(section: &str) -> Option<&'static str> {
+    match section {
+        "resolutions" => Some("npm doesn't read resolutions"),
+        "pnpm" => Some("npm doesn't read pnpm's settings"),
+        "catalog" | "catalogs" | "workspaces" => Some("npm doesn't read catalogs"),
+        _ => None,
+    }
+}
+
+// Whether npm reads an override only if the tree has its package: the manifest doesn't ask for that package itself. A key that names no
+// package is refused in any case.
+fn may_be_unread(names: &Names<'_>, known: &Known, entry: &Entry) -> bool {
+    let (key, depth) = match entry.kind {
+        Kind::Override(_) => (entry.text.as_str(), entry.depth),
+        _ if entry.name.as_str() == "." => (entry.object.as_str(), entry.depth.saturating_sub(1)),
+        _ => (entry.name.as_str(), entry.depth),
+    };
+    let (name, _) = name_and_range(key);
+    let is_direct = depth == 1 && (names.overrides.is_direct(name) || known.is_linked(name));
+    names_package(name) && !is_direct
+}
+
+// What is said of a refusal of the entry if npm doesn't read it, or not always.
+fn aside_of(names: &Names<'_>, file: Checked<'_>, entry: &Entry) -> Option<Aside> {
+    let name = entry.name.as_str();
+    let unread = |why| Some(Aside {
+        rule: Rule::UnreadRange,
+        why,
+    });
+    let section = match entry.kind {
+        Kind::Mistake(_) if entry.object.as_str() == "dependencies" => "dependencies",
+        _ => entry.section,
+    };
+    match section {
+        "dependencies" | "peerDependencies" if names.optional.contains(name) => {
+            unread("npm reads optionalDependencies instead")
+        }
+        "peerDependencies" if names.required.contains(name) => {
+            unread("npm reads dependencies instead")
+        }
+        "overrides" if file.is_of_npm() && may_be_unread(names, file.known, entry) => Some(Aside {
+            rule: Rule::OddOverride,
+            why: "npm reads it only if the tree has the package",
+        }),
+        section if names.is_of_npm == Some(true) && file.is_package() => {
+            unread(unread_by_npm(section)?)
+        }
+        _ => None,
     }
 }
 
@@ -1094,21 +1166,18 @@ fn check_entries<O: Write, E: Write>(
     let named = is_of_npm(entries).or(file.manager.named);
     let mut names = Names {
         asked: HashMap::new(console.alloc),
-        peers: HashSet::new(console.alloc),
+        peers: names_in(console.alloc, entries, "peerDependencies")?,
+        required: names_in(console.alloc, entries, "dependencies")?,
+        optional: names_in(console.alloc, entries, "optionalDependencies")?,
         overrides: Overrides::of(console.alloc, entries)?,
         own: own_name(entries),
         has_packages: entries.iter().any(|entry| entry.kind == Kind::Packages),
         is_of_npm: named.or(file.manager.locked),
         is_named: named.is_some(),
     };
-    for entry in entries
-        .iter()
-        .filter(|entry| entry.section == "peerDependencies")
-    {
-        let _ = names.peers.insert(entry.name.as_str())?;
-    }
     for entry in entries {
         report.position.move_to(report.text, entry.start);
+        report.aside = aside_of(&names, file, entry);
         check_entry(console, report, &mut names, file, entry)?;
     }
     Ok(())

@@ -71,6 +71,14 @@ impl<'f> Finding<'f> {
     }
 }
 
+/// By which rule a refusal of an entry counts that npm doesn't read, or doesn't always read.
+#[derive(Clone, Copy)]
+pub struct Aside {
+    pub rule: Rule,
+    /// What the message ends with.
+    pub why: &'static str,
+}
+
 // How much a finding weighs.
 #[derive(Clone, Copy, PartialEq, Eq)]
 enum Weight {
@@ -141,6 +149,8 @@ pub struct Report<'r> {
     pub warning: Status,
     /// The keys of resolutions that name a package with a range, if the format is JSON: --fix leaves such ranges alone.
     pub pins: &'r [String],
+    /// What is said of refusals of this entry.
+    pub aside: Option<Aside>,
 }
 
 impl Format {
@@ -203,6 +213,7 @@ impl<'r> Report<'r> {
             status: Status::Answered,
             warning,
             pins: &[],
+            aside: None,
         }
     }
 }
@@ -503,8 +514,29 @@ impl Report<'_> {
         )
     }
 
-    /// Counts a finding, unless its rule is off, and prints it: as JSON, as GitHub's annotation, or as a line.
+    /// Counts a finding, unless its rule is off, and prints it. A refusal counts by the rule of the aside, if there is one.
     pub fn add<O: Write, E: Write>(
+        &mut self,
+        console: &mut Console<O, E>,
+        entry: &Entry,
+        finding: Finding<'_>,
+    ) -> Result<(), Stop> {
+        match self.aside {
+            Some(Aside { rule, why }) if finding.cause == Cause::Refused => {
+                let message = format!(in console.alloc; "{} ({why})", finding.message)?;
+                let finding = Finding {
+                    cause: Cause::Rule(rule),
+                    message: message.as_str(),
+                    ..finding
+                };
+                self.count(console, entry, finding)
+            }
+            _ => self.count(console, entry, finding),
+        }
+    }
+
+    // Counts a finding, unless its rule is off, and prints it: as JSON, as GitHub's annotation, or as a line.
+    fn count<O: Write, E: Write>(
         &mut self,
         console: &mut Console<O, E>,
         entry: &Entry,

@@ -101,8 +101,13 @@ fn text_of(entries: &[Entry], kind: Kind) -> Option<&str> {
 }
 
 // Whether a version matches a range, or can't be compared.
-fn is_match(alloc: Global, range: &str, version: &str) -> Result<bool, AllocError> {
-    match matches(alloc, Flavour::Npm, PreRelease::Admitted, range, version) {
+fn is_match(
+    alloc: Global,
+    pre_release: PreRelease,
+    range: &str,
+    version: &str,
+) -> Result<bool, AllocError> {
+    match matches(alloc, Flavour::Npm, pre_release, range, version) {
         Ok(Answer::Value(is_match)) => Ok(is_match),
         Ok(Answer::Tag(_)) | Err(Problem::Invalid(_)) => Ok(true),
         Err(Problem::OutOfMemory) => Err(AllocError),
@@ -301,7 +306,7 @@ impl Known {
             return Ok(None);
         };
         let version = version.as_str();
-        if is_match(alloc, range, version)? {
+        if is_match(alloc, PreRelease::Admitted, range, version)? {
             return Ok(None);
         }
         // npm takes a workspace of its own by its name.
@@ -324,8 +329,13 @@ impl Known {
         if !is_known || range.len() != text.len() {
             return Ok(None);
         }
+        // Every version matches `*` and an empty range, and a pre-release matches another range by npm's rule.
+        let pre_release = match range.trim() {
+            "" | "*" => PreRelease::Admitted,
+            _ => PreRelease::Restricted,
+        };
         match self.versions.get(name) {
-            Some(version) if !is_match(alloc, range, version.as_str())? => {
+            Some(version) if !is_match(alloc, pre_release, range, version.as_str())? => {
                 Ok(Some(version.as_str()))
             }
             _ => Ok(None),

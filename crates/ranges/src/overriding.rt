@@ -124,6 +124,11 @@ impl<'e> Overrides<'e> {
         }
     }
 
+    /// Whether the manifest itself asks for a package with this name.
+    pub fn is_direct(&self, name: &str) -> bool {
+        self.direct.contains_key(name)
+    }
+
     /// What the manifest itself asks for by this name, if no key before counts for it.
     pub fn asked(&self, name: &str) -> Option<&'e Entry> {
         match self.direct.get(name) {

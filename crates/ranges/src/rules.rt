@@ -33,6 +33,7 @@ pub enum Rule {
     NotCanonical,
     NpmDiffers,
     OddEngine,
+    OddOverride,
     OddPath,
     OddSection,
     OddTag,
@@ -40,6 +41,7 @@ pub enum Rule {
     OtherVersion,
     PreReleaseBound,
     UnmatchedWorkspace,
+    UnreadRange,
 }
 
 /// A rule, its level where nothing sets it, what it finds, and what to do.
@@ -52,7 +54,7 @@ pub struct About {
     pub help: &'static str,
 }
 
-const COUNT: usize = 19;
+const COUNT: usize = 21;
 
 /// All rules, by name.
 pub const RULES: [About; COUNT] = [
@@ -141,6 +143,13 @@ pub const RULES: [About; COUNT] = [
         help: "Write a range in a string, as in `>=20`.",
     },
     About {
+        rule: Rule::OddOverride,
+        name: "odd-override",
+        level: Level::Error,
+        finds: "npm refuses the override as soon as the tree has its package.",
+        help: "Correct the override, or leave it out.",
+    },
+    About {
         rule: Rule::OddPath,
         name: "odd-path",
         level: Level::Warning,
@@ -188,6 +197,13 @@ pub const RULES: [About; COUNT] = [
         level: Level::Warning,
         finds: "A pattern of workspaces matches no folder that has a manifest.",
         help: "Correct the pattern, or leave it out.",
+    },
+    About {
+        rule: Rule::UnreadRange,
+        name: "unread-range",
+        level: Level::Warning,
+        finds: "The package manager doesn't read this string, which it would refuse.",
+        help: "Correct it, or leave it out.",
     },
 ];
 

@@ -3,7 +3,7 @@
 use crate::entry::Entry;
 use crate::sections::{ITEM, Kind, Place, place_of};
 use std::alloc::{AllocError, Global};
-use std::collections::HashSet;
+use std::collections::HashMap;
 
 /// What a value is.
 #[derive(Clone, Copy, PartialEq, Eq)]
@@ -72,6 +72,43 @@ fn misplaced(
     Some(Kind::Mistake(message))
 }
 
+// The keys of an object so far.
+#[derive(Drop)]
+struct Keys {
+    /// Where the last key with each name stands among them.
+    places: HashMap<String, usize>,
+    /// How many entries stand before each key.
+    starts: Vec<usize>,
+}
+
+impl Keys {
+    fn new(alloc: Global) -> Keys {
+        Keys {
+            places: HashMap::new(alloc),
+            starts: Vec::new(alloc),
+        }
+    }
+
+    // Takes a key before which this many entries stand. Of a key that stands before, too, it returns where the entries of that one begin,
+    // and where they end.
+    fn take(&mut self, key: String, entries: usize) -> Result<Option<(usize, usize)>, AllocError> {
+        let place = self.starts.len();
+        self.starts.push(entries)?;
+        let Some(old) = self.places.insert(key, place)? else {
+            return Ok(None);
+        };
+        let start_of = |place: usize| self.starts.get(place).copied().unwrap_or(entries);
+        Ok(Some((start_of(old), start_of(old.saturating_add(1)))))
+    }
+
+    // Forgets so many entries that stood before an index.
+    fn forget(&mut self, count: usize, index: usize) {
+        for start in self.starts.iter_mut().filter(|start| **start >= index) {
+            *start = start.saturating_sub(count);
+        }
+    }
+}
+
 // An object or an array that isn't closed.
 #[derive(Drop)]
 struct Open {
@@ -79,7 +116,7 @@ struct Open {
     /// How many items or keys stand before the next one.
     items: usize,
     /// The keys so far, in an object on the way to ranges.
-    keys: Option<HashSet<String>>,
+    keys: Option<Keys>,
 }
 
 /// The values so far, and the way to the next one.
@@ -379,7 +416,7 @@ impl Collector {
     pub fn open(&mut self, is_array: bool) -> Result<(), AllocError> {
         let is_file = self.open.is_empty();
         let keys = if !is_array && (is_file || self.place().has_object) {
-            Some(HashSet::new(self.alloc))
+            Some(Keys::new(self.alloc))
         } else {
             None
         };
@@ -423,24 +460,41 @@ impl Collector {
         }
     }
 
+    // Drops the entries of an earlier key with the name of the next one, since parsers of JSON take the last value. It says whether there is
+    // such a key.
+    fn drop_earlier(&mut self, key: &str) -> Result<bool, AllocError> {
+        let count = self.entries.len();
+        let name = String::from_str(self.alloc, key)?;
+        let Some(
+            Open {
+                keys: Some(keys),
+                ..
+            },
+        ) = self.open.last_mut()
+        else {
+            return Ok(false);
+        };
+        let Some((start, end)) = keys.take(name, count)? else {
+            return Ok(false);
+        };
+        if self.format != Format::Yaml {
+            let end = end.min(count);
+            let start = start.min(end);
+            keys.forget(end.saturating_sub(start), end);
+            let _ = self.entries.drain(start..end);
+        }
+        Ok(true)
+    }
+
     /// Takes a key, which stands between these indexes.
     pub fn take_key(&mut self, key: String, start: usize, end: usize) -> Result<(), AllocError> {
         self.is_lockfile |= self.path.is_empty() && key.as_str() == "lockfileVersion";
+        let is_repeated = self.drop_earlier(key.as_str())?;
         self.add_override(key.as_str(), start, end)?;
-        let again = String::from_str(self.alloc, key.as_str())?;
         self.key = Some(key);
-        let is_new = match self.open.last_mut() {
-            Some(
-                Open {
-                    keys: Some(keys),
-                    ..
-                },
-            ) => keys.insert(again)?,
-            _ => true,
-        };
         self.add_key(start)?;
         match self.format {
-            _ if is_new => Ok(()),
+            _ if !is_repeated => Ok(()),
             Format::Yaml => {
                 let message = "the key stands before, too: pnpm refuses the file";
                 self.add_kind(start, Kind::Mistake(message), "")
