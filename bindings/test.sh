@@ -6,7 +6,8 @@
 # same library (js/test.sh). It stops at the first failure.
 #
 # usage: test.sh [c] [python] [rust] [sqlite] [postgres] [js] [speed]; by default all but speed, which prints the times of calls.
-# OUT is a folder for what is built, by default bindings/out; CC is the C compiler.
+# OUT is a folder for what is built, by default bindings/out; CC is the C compiler. DENO_SEMVER_SOURCE is a folder of Deno's crate that cargo
+# builds offline; Debian doesn't have that crate. Then no call of the Rust crate may be slower.
 set -e
 here=$(cd "$(dirname "$0")" && pwd)
 out=${OUT:-$here/out}
@@ -155,6 +156,11 @@ rust() {
     SEMVER_LIB=$lib RATTLE_C=$out/heap QUESTIONS=$out/questions.flat offline test --features $features
     export SEMVER_LIB=$lib RATTLE_C=$kit
     resolves 4 offline run --example resolve
+    if [ -n "$DENO_SEMVER_SOURCE" ]; then
+        "$here/rust/speed.py" "$DENO_SEMVER_SOURCE" --offline
+    else
+        echo "Rust: DENO_SEMVER_SOURCE names no folder of Deno's crate, so its speed isn't compared"
+    fi
     unset SEMVER_LIB RATTLE_C
 }
 
