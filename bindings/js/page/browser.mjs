@@ -36,9 +36,16 @@ export class Browser {
     this.#session = sessionId;
     for (const domain of ['Page', 'Runtime', 'Network', 'Log']) await this.#send(`${domain}.enable`);
     await this.size(1000, 900);
-    const loaded = new Promise((resolve) => this.#waiting.set('Page.loadEventFired', { resolve }));
-    await this.#send('Page.navigate', { url: page });
-    await loaded;
+    await this.visit(page);
+  }
+
+  /** Loads a page, also where only its fragment differs from the last one's. */
+  async visit(page) {
+    for (const url of ['about:blank', page]) {
+      const loaded = new Promise((resolve) => this.#waiting.set('Page.loadEventFired', { resolve }));
+      await this.#send('Page.navigate', { url });
+      await loaded;
+    }
   }
 
   #send(method, params = {}) {

@@ -178,6 +178,7 @@ const DEFAULTS = new Map(FIELDS.map((id) => [id, at(id).value]));
 function readAddress() {
   const typed = new URLSearchParams(location.hash.slice(1));
   for (const [id, value] of DEFAULTS) at(id).value = typed.get(id) ?? value;
+  if (at('grammar').value === '') at('grammar').value = DEFAULTS.get('grammar'); // the link names none of the list
   at('pre-releases').checked = typed.has('pre-releases');
   show();
 }

@@ -9,7 +9,8 @@ import { fileURLToPath } from 'node:url';
 import { Browser } from './browser.mjs';
 
 const folder = new URL('../out/page/', import.meta.url);
-const browser = await Browser.open(new URL('index.html', folder).href);
+const page = new URL('index.html', folder).href;
+const browser = await Browser.open(page);
 const shot = (name) => browser.screenshot(fileURLToPath(new URL(name, folder)));
 
 /** Replaces the text of a field as someone who types does. */
@@ -106,21 +107,58 @@ async function version() {
   assert.equal(await text('#version-problem'), '');
 }
 
+/** What the fields hold. */
+const fields = () => browser.evaluate(`Object.fromEntries([...document.querySelectorAll('input, select')].map((it) =>
+  [it.id, it.type === 'checkbox' ? it.checked : it.value]))`);
+const fragment = () => browser.evaluate('location.hash');
+const START = { range: '>=1.2 <2 || 3.x', version: '', other: '', grammar: 'npm', 'pre-releases': false };
+
 /** What is typed stands in the address, and a link with it shows the same. */
 async function address() {
-  await type('range', '^1 || 2 & 3');
-  await type('version', '1.3.0-é');
-  await choose('grammar', 'npm');
-  const hash = await browser.evaluate('location.hash');
-  assert.deepEqual([...new URLSearchParams(hash.slice(1))], [['range', '^1 || 2 & 3'], ['version', '1.3.0-é']]);
-  await browser.evaluate(`location.hash = '#range=%5E2&version=2.1.0-a&grammar=strict&pre-releases=all'`);
-  await browser.evaluate('new Promise((resolve) => setTimeout(resolve, 50))');
+  await browser.visit(page);
+  assert.deepEqual(await fields(), START);
+  const typed = { range: '^1 || 2 & 3%', version: '1.3.0-é', other: '>=1 +#', grammar: 'strict', 'pre-releases': true };
+  const changes = [
+    () => type('range', typed.range),
+    () => type('version', typed.version),
+    () => type('other', typed.other),
+    () => choose('grammar', typed.grammar),
+    () => browser.evaluate(`document.getElementById('pre-releases').click()`),
+  ];
+  let before = await fragment();
+  for (const change of changes) {
+    await change();
+    const after = await fragment();
+    assert.notEqual(after, before);
+    before = after;
+  }
+  assert.deepEqual([...new URLSearchParams(before.slice(1))], Object.entries({ ...typed, 'pre-releases': 'all' }));
+  await browser.visit(await browser.evaluate('location.href'));
+  assert.deepEqual(await fields(), typed);
+  await browser.visit(`${page}#range=%5E2&version=2.1.0-a&grammar=strict&pre-releases=all`);
   assert.equal((await pairs('summary'))['Matches 2.1.0-a'], 'yes: ^2');
-  assert.equal(await browser.evaluate(`document.getElementById('grammar').value`), 'strict');
   await browser.evaluate(`location.hash = ''`);
   await browser.evaluate('new Promise((resolve) => setTimeout(resolve, 50))');
   assert.equal((await pairs('summary'))['Canonical form'], '^1.2.0 || 3');
-  assert.equal(await browser.evaluate(`document.getElementById('version').value`), '');
+  assert.deepEqual(await fields(), START);
+}
+
+/** An address that the page didn't write shows what can be read of it. */
+async function mistakenAddress() {
+  for (const [hash, shown] of [
+    ['#%', {}],
+    ['#range=1%', { range: '1%' }],
+    ['#range=%5E1&version=%E9%zz', { range: '^1', version: '\ufffd%zz' }],
+    ['#unknown=1&__proto__=2&other=^2', { other: '^2' }],
+    ['#grammar=none&version=1.3.0', { version: '1.3.0' }],
+    ['#range=', { range: '' }],
+  ]) {
+    await browser.visit(page + hash);
+    assert.deepEqual(await fields(), { ...START, ...shown }, hash);
+    await type('range', '>=1.2 <2');
+    assert.equal((await pairs('summary'))['Canonical form'], '^1.2.0', hash);
+  }
+  await browser.visit(page);
 }
 
 async function comparison() {
@@ -228,9 +266,10 @@ async function interrupted() {
 
 try {
   assert.deepEqual(browser.errors, []);
-  for (const part of [meaning, mistakes, version, address, comparison, options, accessibility, pictures]) await part();
+  for (const part of [meaning, mistakes, version, address, mistakenAddress, comparison, options]) await part();
+  for (const part of [accessibility, pictures]) await part();
   assert.deepEqual(browser.errors, []);
-  assert.deepEqual(browser.requests.filter((url) => !url.startsWith('file:') && !url.startsWith('data:')), []);
+  assert.deepEqual(browser.requests.filter((url) => ![page, 'about:blank', 'data:,'].includes(url)), []);
   console.log('The page answers in a browser, without a request to the network');
 } finally {
   await browser.close();
