@@ -8,6 +8,8 @@ import { setTimeout } from 'node:timers/promises';
 
 const FLAGS = ['--headless=new', '--no-sandbox', '--disable-gpu', '--disable-dev-shm-usage', '--no-first-run', '--remote-debugging-pipe'];
 
+const KEY_CODES = { Tab: 9, Enter: 13, ' ': 32, ArrowRight: 39, ArrowDown: 40 };
+
 export class Browser {
   #process;
   #profile = mkdtempSync(join(tmpdir(), 'chromium-'));
@@ -18,7 +20,7 @@ export class Browser {
 
   /** The requests for network that the page made. */
   requests = [];
-  /** The errors that the page reported. */
+  /** The errors that the page threw or that stand in its console. */
   errors = [];
 
   static async open(page) {
@@ -65,6 +67,7 @@ export class Browser {
     if (method === 'Network.requestWillBeSent') this.requests.push(params.request.url);
     if (method === 'Runtime.exceptionThrown') this.errors.push(params.exceptionDetails.exception?.description);
     if (method === 'Log.entryAdded') this.errors.push(params.entry.text);
+    if (method === 'Runtime.consoleAPICalled' && params.type === 'error') this.errors.push(JSON.stringify(params.args));
     const waiting = this.#waiting.get(id ?? method);
     this.#waiting.delete(id ?? method);
     if (error) waiting?.reject(new Error(error.message));
@@ -85,7 +88,7 @@ export class Browser {
 
   async press(key, code = key, modifiers = 0) {
     const typed = { ' ': ' ', Enter: '\r' }[key];
-    const keys = { key, code, modifiers, windowsVirtualKeyCode: { Tab: 9, Enter: 13, ' ': 32 }[key] ?? 0, text: typed };
+    const keys = { key, code, modifiers, windowsVirtualKeyCode: KEY_CODES[key] ?? 0, text: typed };
     await this.#send('Input.dispatchKeyEvent', { type: 'keyDown', ...keys });
     await this.#send('Input.dispatchKeyEvent', { type: 'keyUp', ...keys });
   }

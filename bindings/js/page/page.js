@@ -43,7 +43,8 @@ function whyNot(version, { start, end }) {
 }
 
 /** Whether the range matches the version, and by which alternative, or why not. */
-function matchText(range, version, { alternatives }, options) {
+function matchText(range, version, { tag, alternatives }, options) {
+  if (tag !== undefined) return 'unknown: a registry says which version has the tag';
   const valid = alternatives.filter(({ error }) => !error);
   const named = (it) => it.text || '*';
   if (matches(range, version, options)) return `yes: ${named(valid.find(({ text }) => matches(text, version, options)))}`;
@@ -118,8 +119,8 @@ function versionOf(field) {
 }
 
 function summaryOf(range, version, meaning, options) {
-  if (meaning.tag !== undefined) return [['Tag', meaning.tag]];
   const match = version === undefined ? [] : [[`Matches ${version}`, matchText(range, version, meaning, options)]];
+  if (meaning.tag !== undefined) return [...match, ['Tag', meaning.tag]];
   return [
     ...match,
     ['Canonical form', meaning.canonical],
@@ -149,7 +150,9 @@ function rowsOf(meaning, side) {
 
 function showMeaning(range, version, meaning, options) {
   showPairs(at('summary'), meaning ? summaryOf(range, version, meaning, options) : []);
-  at('alternatives').replaceChildren(...(meaning?.alternatives ?? []).map(alternativeRow));
+  const rows = (meaning?.alternatives ?? []).map(alternativeRow);
+  at('alternatives').replaceChildren(...rows);
+  at('table').hidden = rows.length === 0;
 }
 
 function showComparison(one, other, meanings, options) {
@@ -167,6 +170,7 @@ function show() {
   showMeaning(range.value, versionOf(at('version')), meaning, options);
   showComparison(range.value, other.value, [meaning, second], options);
   const rows = [...rowsOf(meaning, 'first'), ...rowsOf(second, 'second')];
+  at('line').hidden = rows.length === 0;
   at('line').replaceChildren(...(rows.length ? [numberLine(rows, describe(rows))] : []));
 }
 

@@ -99,6 +99,18 @@ async function version() {
   assert.equal((await pairs('summary'))['Matches 2.0.0'], 'no: >=1.2 <2: not <2.0.0; 3.x: not >=3.0.0');
   await type('version', '3.1.0-rc.1');
   assert.equal((await pairs('summary'))['Matches 3.1.0-rc.1'], 'no: >=1.2 <2: not <2.0.0; 3.x: a pre-release, and no bound is one of 3.1.0');
+  await type('range', '>1.2.3-rc.2 <=2');
+  for (const [typed, why] of [
+    ['1.2.3-rc.2', 'not >1.2.3-rc.2'],
+    ['1.2.4-rc.1', 'a pre-release, and no bound is one of 1.2.4'],
+    ['3.0.0', 'not <3.0.0'],
+  ]) {
+    await type('version', typed);
+    assert.equal((await pairs('summary'))[`Matches ${typed}`], `no: >1.2.3-rc.2 <=2: ${why}`);
+  }
+  await type('range', 'latest');
+  assert.match((await pairs('summary'))['Matches 3.0.0'], /^unknown: a registry/);
+  await type('range', '1 || 2');
   await type('version', '1.2');
   assert.match(await text('#version-problem'), /Character 4: /);
   assert.match(await text('#version-problem pre'), /^1\.2\n {3}\^$/);
@@ -200,11 +212,12 @@ async function accessibility() {
   await type('other', '^1');
   await browser.evaluate(`document.getElementById('range').focus()`);
   const visited = [];
-  for (let i = 0; i < 5; i++) {
+  for (let i = 0; i < 6; i++) {
     visited.push(await browser.evaluate('document.activeElement.id'));
+    assert.equal(await browser.evaluate('getComputedStyle(document.activeElement).outlineStyle'), 'solid');
     await browser.press('Tab');
   }
-  assert.deepEqual(visited, ['range', 'version', 'other', 'grammar', 'pre-releases']);
+  assert.deepEqual(visited, ['range', 'version', 'other', 'grammar', 'pre-releases', 'line']);
   const nodes = await browser.accessible();
   const has = (role, name) => assert.ok(nodes.some((it) => it[0] === role && name.test(it[1])), `${role} ${name}`);
   has('textbox', /^Range$/);
@@ -216,6 +229,26 @@ async function accessibility() {
   has('columnheader', /^Bounds$/);
   const range = nodes.find(([role, name]) => role === 'textbox' && name === 'Range');
   assert.match(range[2], /Unexpected character/);
+}
+
+/** The keys alone choose a grammar and scroll the number line, which no key reaches where it's empty. */
+async function keyboard() {
+  await browser.size(320, 900);
+  await type('range', '1 || 3 || 5 || 7');
+  await browser.evaluate(`document.getElementById('grammar').focus()`);
+  await browser.press('ArrowDown');
+  assert.equal((await fields()).grammar, 'normalized');
+  assert.match(await fragment(), /grammar=normalized/);
+  await browser.press('Tab');
+  await browser.press('Tab');
+  await browser.press('ArrowRight');
+  await browser.evaluate('new Promise((resolve) => setTimeout(resolve, 500))');
+  assert.ok(await browser.evaluate(`document.getElementById('line').scrollLeft > 0`));
+  await choose('grammar', 'npm');
+  await type('other', '');
+  await type('range', 'latest');
+  assert.deepEqual([await isHidden('line'), await isHidden('table')], [true, true]);
+  await browser.size(1000, 900);
 }
 
 async function pictures() {
@@ -267,7 +300,7 @@ async function interrupted() {
 try {
   assert.deepEqual(browser.errors, []);
   for (const part of [meaning, mistakes, version, address, mistakenAddress, comparison, options]) await part();
-  for (const part of [accessibility, pictures]) await part();
+  for (const part of [accessibility, keyboard, pictures]) await part();
   assert.deepEqual(browser.errors, []);
   assert.deepEqual(browser.requests.filter((url) => ![page, 'about:blank', 'data:,'].includes(url)), []);
   console.log('The page answers in a browser, without a request to the network');
