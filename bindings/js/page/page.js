@@ -62,31 +62,49 @@ function showPairs(list, pairs) {
   list.replaceChildren(...items);
 }
 
+/** How many characters stand before a place in a text, which counts UTF-16 code units. */
+function charactersBefore(text, start) {
+  return [...text.slice(0, start)].length;
+}
+
 /** The text with a caret below the place of its mistake. */
 function caretLines(text, start) {
-  const before = [...text.slice(0, start)].length;
-  return make('pre', '', `${text}\n${' '.repeat(before)}^`);
+  return make('pre', '', `${text}\n${' '.repeat(charactersBefore(text, start))}`, make('span', 'caret', '^'));
+}
+
+/** Where the lines are longer than the page is wide, scrolls them so far that the caret is seen. */
+function scrollToCaret(lines) {
+  lines.scrollLeft = lines.querySelector('.caret').offsetLeft - lines.clientWidth / 2;
 }
 
 function expectedText(expected) {
   return expected.length ? ` Expected ${expected.map((it) => (/^\w+$/.test(it) ? it : `"${it}"`)).join(', ')}.` : '';
 }
 
+function problemParts(text, { message, start, expected }) {
+  const said = `${message}${expectedText(expected)}`;
+  if (start === undefined) return [make('div', '', said)];
+  return [caretLines(text, start), make('div', '', `Character ${charactersBefore(text, start) + 1}: ${said}`)];
+}
+
 /** Shows what is wrong with a range below its field. */
 function showProblem(field, problems) {
-  const parts = problems.flatMap(({ message, start, expected }) => [
-    ...(start === undefined ? [] : [caretLines(field.value, start)]),
-    make('div', '', `${start === undefined ? '' : `Character ${start + 1}: `}${message}${expectedText(expected)}`),
-  ]);
-  at(`${field.id}-problem`).replaceChildren(...parts);
+  const below = at(`${field.id}-problem`);
+  below.replaceChildren(...problems.flatMap((problem) => problemParts(field.value, problem)));
+  below.querySelectorAll('pre').forEach(scrollToCaret);
   field.setAttribute('aria-invalid', String(problems.length > 0));
 }
 
+function mistakenRow(text, error) {
+  const why = make('td', '', `left out: ${error.message}`);
+  why.colSpan = 3;
+  return make('tr', 'left-out', make('td', '', text), why);
+}
+
 function alternativeRow({ text, error, ...meaning }) {
-  const cells = error
-    ? [text, `left out: ${error.message}`, '', '']
-    : [text || '*', boundsText(meaning), preReleasesText(meaning), meaning.lowest ?? 'no version matches'];
-  return make('tr', error ? 'left-out' : '', ...cells.map((cell) => make('td', '', cell)));
+  if (error) return mistakenRow(text, error);
+  const cells = [text || '*', boundsText(meaning), preReleasesText(meaning), meaning.lowest ?? 'no version matches'];
+  return make('tr', '', ...cells.map((cell) => make('td', '', cell)));
 }
 
 // ---- the whole

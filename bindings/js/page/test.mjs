@@ -37,6 +37,9 @@ const count = (selector) => browser.evaluate(`document.querySelectorAll('${selec
 const attributes = (selector, name) => browser.evaluate(`[...document.querySelectorAll('${selector}')].map((it) =>
   it.getAttribute('${name}'))`);
 const texts = (selector) => browser.evaluate(`[...document.querySelectorAll('${selector}')].map((it) => it.textContent)`);
+/** Where elements begin and end, from left to right. */
+const boxes = (selector) => browser.evaluate(`[...document.querySelectorAll('${selector}')].map((it) =>
+  it.getBoundingClientRect()).map(({ left, right }) => [left, right])`);
 const isHidden = (id) => browser.evaluate(`document.getElementById('${id}').hidden`);
 
 /** Where the arrows point, from the place where each begins to its tip. */
@@ -251,6 +254,32 @@ async function keyboard() {
   await browser.size(1000, 900);
 }
 
+/** No text makes the page wider than a phone or a screen, and a mistake's caret is seen. */
+async function widths() {
+  const long = 'a'.repeat(200);
+  const typed = [
+    ['>=1.2 <2 || 3.x', '3.1.0-rc.1', '^1.4'],
+    [`>=1.2.3-${long} <2 || ~3.1.0-rc.1 || ${long}!`, `1.2.3-${long}`, `^1.4.0-${long}`],
+    [`^1.2.3-${long}!`, `1.2.3-${long}!`, `1 || ${long} || 2`],
+    [long, '1.2.3', ''],
+    ['1 ||'.repeat(100), '1.2.3', '>=1.2.3 '.repeat(100)],
+  ];
+  for (const width of [320, 1280]) {
+    await browser.size(width, 900);
+    for (const [range, version, other] of typed) {
+      await type('range', range);
+      await type('version', version);
+      await type('other', other);
+      const scrolled = await browser.evaluate('document.documentElement.scrollWidth');
+      const shown = await browser.evaluate('document.documentElement.clientWidth');
+      assert.ok(scrolled <= shown, `${range}: ${scrolled} is wider than ${shown}`);
+      const carets = (await boxes('.caret')).map(([, right]) => right);
+      assert.ok(carets.every((right) => right > 0 && right <= shown), `${range}: ${carets}`);
+    }
+  }
+  await browser.size(1000, 900);
+}
+
 async function pictures() {
   await type('range', '>=1.2 <2 || ~3.1.0-rc.1 || >5.0.0 || foo bar');
   await type('other', '^1.4 || <=3.1.0');
@@ -259,9 +288,7 @@ async function pictures() {
   await shot('dark.png');
   await browser.colors('light');
   await browser.size(320, 900);
-  const isNarrow = await browser.evaluate('document.documentElement.scrollWidth <= innerWidth');
   await shot('narrow.png');
-  assert.ok(isNarrow, 'the page is wider than a phone');
 }
 
 /** Serves the package and its tests to this machine, since a page of a file may import nothing. */
@@ -300,7 +327,7 @@ async function interrupted() {
 try {
   assert.deepEqual(browser.errors, []);
   for (const part of [meaning, mistakes, version, address, mistakenAddress, comparison, options]) await part();
-  for (const part of [accessibility, keyboard, pictures]) await part();
+  for (const part of [accessibility, keyboard, widths, pictures]) await part();
   assert.deepEqual(browser.errors, []);
   assert.deepEqual(browser.requests.filter((url) => ![page, 'about:blank', 'data:,'].includes(url)), []);
   console.log('The page answers in a browser, without a request to the network');
