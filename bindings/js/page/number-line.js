@@ -5,9 +5,11 @@ import { sort } from 'deno-semver';
 const SPACE = 'http://www.w3.org/2000/svg';
 const ROW = 44;
 const WIDTH = 860; // of the page
-const STEPS = [90, 130]; // the smallest and the largest distance of two marks
+const STEPS = [90, 130]; // the smallest and the largest distance of two marks, unless their labels need more
 const MARGIN = 70;
 const RADIUS = 6;
+const CHARACTER = 8; // at least the width of a character of a label
+const LONGEST = 30; // the characters of a label; the table has the whole text
 
 function element(name, attributes, ...children) {
   const made = document.createElementNS(SPACE, name);
@@ -15,6 +17,9 @@ function element(name, attributes, ...children) {
   made.append(...children);
   return made;
 }
+
+const shortened = (text) => (text.length > LONGEST ? `${text.slice(0, LONGEST - 1)}…` : text);
+const widthOf = (text) => CHARACTER * shortened(text).length;
 
 const numbersOf = (version) => version.split(/[-+]/, 1)[0];
 
@@ -53,17 +58,23 @@ function line(from, to, y, className) {
   return element('line', { x1: from, y1: y, x2: to, y2: y, class: className });
 }
 
+/** The text of a row above its beginning, or further left where it would leave the picture. */
+function labelOf(text, from, y, axis, className) {
+  const x = Math.min(from + 8, axis.width - widthOf(text));
+  return element('text', { x, y: y - 12, class: className }, shortened(text));
+}
+
 function validRow(row, y, axis) {
   const [from, to] = [axis.placeOf(row.start?.version) ?? axis.first, axis.placeOf(row.end?.version) ?? axis.last];
   const bands = preReleaseBands(row).map((band) =>
     line(axis.placeOf(band.from) ?? axis.first, axis.placeOf(band.to) ?? axis.last, y, 'pre-releases'));
   const ends = [endOf(row.start, from, y, -1), endOf(row.end, to, y, 1)];
-  const label = element('text', { x: from + 8, y: y - 12 }, row.text || '*');
+  const label = labelOf(row.text || '*', from, y, axis, 'range-text');
   return element('g', { class: row.side }, ...bands, line(from, to, y, row.lowest === null ? 'nothing' : 'range'), ...ends, label);
 }
 
 function leftOutRow(row, y, axis) {
-  const label = element('text', { x: axis.first + 8, y: y - 12, class: 'left-out-text' }, row.text);
+  const label = labelOf(row.text, axis.first, y, axis, 'left-out-text');
   return element('g', { class: 'left-out' }, line(axis.first, axis.last, y, 'nothing'), label);
 }
 
@@ -71,14 +82,16 @@ function leftOutRow(row, y, axis) {
 export function numberLine(rows, description) {
   const marks = marksOf(rows.filter(({ error }) => !error));
   const steps = Math.max(marks.length - 1, 1);
-  const step = Math.min(Math.max((WIDTH - 2 * MARGIN) / steps, STEPS[0]), STEPS[1]);
-  const width = 2 * MARGIN + steps * step;
+  const widest = Math.max(...marks.map(widthOf));
+  const margin = Math.max(MARGIN, widest / 2);
+  const step = Math.max(Math.min(Math.max((WIDTH - 2 * margin) / steps, STEPS[0]), STEPS[1]), widest + CHARACTER);
+  const width = 2 * margin + steps * step;
   const height = ROW * rows.length + 40;
-  const placeOf = (version) => (version === undefined ? undefined : MARGIN + marks.indexOf(version) * step);
-  const axis = { placeOf, first: MARGIN / 4, last: width - MARGIN / 4 };
+  const placeOf = (version) => (version === undefined ? undefined : margin + marks.indexOf(version) * step);
+  const axis = { placeOf, width, first: MARGIN / 4, last: width - MARGIN / 4 };
   const ticks = marks.flatMap((version) => {
     const x = placeOf(version);
-    const label = element('text', { x, y: height - 8, 'text-anchor': 'middle', class: 'axis-label' }, version);
+    const label = element('text', { x, y: height - 8, 'text-anchor': 'middle', class: 'axis-label' }, shortened(version));
     return [element('line', { x1: x, y1: 8, x2: x, y2: height - 26, class: 'axis' }), label];
   });
   const drawn = rows.map((row, index) => (row.error ? leftOutRow : validRow)(row, ROW * (index + 1) - 12, axis));

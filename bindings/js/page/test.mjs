@@ -280,6 +280,16 @@ async function widths() {
   await browser.size(1000, 900);
 }
 
+/** Where many versions stand on the number line, no label covers another, and none leaves the picture. */
+async function labels() {
+  await type('other', '');
+  await type('range', '1.2.3-alpha.10 || 1.2.3-alpha.11 || 2.0.0-beta.12.build || 3.1234.12345 || 4 || 5 || 6 || >7.1234.1234567');
+  const axis = await boxes('svg .axis-label');
+  axis.slice(1).forEach(([left], i) => assert.ok(left > axis[i][1], `label ${i} covers the next one`));
+  const [[first, last]] = await boxes('svg');
+  for (const [left, right] of [...axis, ...(await boxes('svg .range-text'))]) assert.ok(left >= first && right <= last, `${left} ${right}`);
+}
+
 async function pictures() {
   await type('range', '>=1.2 <2 || ~3.1.0-rc.1 || >5.0.0 || foo bar');
   await type('other', '^1.4 || <=3.1.0');
@@ -327,7 +337,7 @@ async function interrupted() {
 try {
   assert.deepEqual(browser.errors, []);
   for (const part of [meaning, mistakes, version, address, mistakenAddress, comparison, options]) await part();
-  for (const part of [accessibility, keyboard, widths, pictures]) await part();
+  for (const part of [accessibility, keyboard, widths, labels, pictures]) await part();
   assert.deepEqual(browser.errors, []);
   assert.deepEqual(browser.requests.filter((url) => ![page, 'about:blank', 'data:,'].includes(url)), []);
   console.log('The page answers in a browser, without a request to the network');
