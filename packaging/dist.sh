@@ -136,7 +136,8 @@ debian() {
         echo " -- $(sed -n 's/^Maintainer: //p' packaging/debian/control.in)  $(date -uR -d "@$SOURCE_DATE_EPOCH")"
     } | gzip -9n >"$share/doc/deno-semver/changelog.Debian.gz"
     mkdir "$root/DEBIAN"
-    if [ -n "$STATIC" ]; then install -D -m 644 packaging/debian/overrides "$share/lintian/overrides/deno-semver"; fi
+    install -D -m 644 packaging/debian/overrides "$share/lintian/overrides/deno-semver"
+    if [ -n "$STATIC" ]; then cat packaging/debian/overrides.static >>"$share/lintian/overrides/deno-semver"; fi
     size=$(find "$root/usr" -type f -printf '%s\n' | awk '{ kilobytes += int(($1 + 1023) / 1024) } END { print kilobytes }')
     libc=$(objdump -T "$root"/usr/lib/x86_64-linux-gnu/*.so* "$root/usr/bin/ranges" "$root/usr/bin/npmver" 2>/dev/null |
         grep -o 'GLIBC_[0-9.]*' | sed 's/GLIBC_//' | sort -V | tail -n 1)

@@ -270,7 +270,7 @@ try_objects() { # COMMAND..
 try_debian() {
     package=$(ls "$root"/first/*.deb)
     if has lintian; then
-        lintian --allow-root --fail-on error "$package" >"$root/lintian.log" 2>&1 || fail "lintian: $(cat "$root/lintian.log")"
+        lintian --allow-root --fail-on error,warning "$package" >"$root/lintian.log" 2>&1 || fail "lintian: $(cat "$root/lintian.log")"
     else
         echo 'packaging: no lintian, so the Debian package is not judged by it'
     fi
@@ -279,7 +279,7 @@ try_debian() {
     {
         installed lib/x86_64-linux-gnu out/x86_64 | sed -e 's|man1/.*|&.gz|' -e 's|site-functions|vendor-completions|'
         printf '644 share/doc/deno-semver/%s\n' copyright changelog.Debian.gz
-        if [ -n "$static" ]; then echo '644 share/lintian/overrides/deno-semver'; fi
+        echo '644 share/lintian/overrides/deno-semver'
     } | holds "$root/unpacked/usr"
     licensed "$root/unpacked/usr/share/doc/deno-semver/copyright"
     newest=$(objdump -T "$root"/unpacked/usr/bin/* "$root"/unpacked/usr/lib/*/*.so* 2>/dev/null | grep -o 'GLIBC_[0-9.]*' | sort -V | tail -n 1)
