@@ -3,7 +3,8 @@
 # library where a source is newer, and tests the bindings over it: C's, also under the checkers of addresses and threads, Python's, and
 # Rust's where cargo is there, with serde and url where Debian's packages are. Each answers the questions of questions.jsonl and runs its
 # examples, over the heap of heap.c, which counts what is alive. Then the extensions of SQLite and PostgreSQL, and the npm package over the
-# same library (js/test.sh). It stops at the first failure.
+# same library (js/test.sh). The packages that Python's parsing is timed beside are Debian's, fetched from where apt gets packages. It stops
+# at the first failure.
 #
 # usage: test.sh [c] [python] [rust] [sqlite] [postgres] [js] [speed]; by default all but speed, which prints the times of calls.
 # OUT is a folder for what is built, by default bindings/out; CC is the C compiler. DENO_SEMVER_SOURCE is a folder of Deno's crate that cargo
@@ -86,6 +87,40 @@ c() {
     done
 }
 
+# Fetches the packages of Debian that speed.py compares with, and unpacks those whose checksums are right.
+fetch_others() {
+    for tool in apt-get curl dpkg-deb; do
+        command -v $tool >/dev/null || return 1
+    done
+    mirrors=$(apt-get indextargets --format '$(REPO_URI)' 'Created-By: Packages' | sort -u)
+    while read -r sum path; do
+        package=$out/${path##*/}
+        for mirror in $mirrors; do
+            echo "$sum  $package" | sha256sum --check --status 2>/dev/null && break
+            curl -sf -m 20 -o "$package" "${mirror%/}/pool/main/p/$path" || continue
+        done
+        echo "$sum  $package" | sha256sum --check --status 2>/dev/null && dpkg-deb -x "$package" "$out/others" || return 1
+    done <<END
+04adb9e09aa8ed5bd8e31d31143fb265c43dcbec70da19f21e37cbe44b0c32cf python-packaging/python3-packaging_23.0-1_all.deb
+d0b718ca4be02412472bf29ab68bf0cc85c466ee8e5df50134b2d305ad4c74a0 python-semver/python3-semver_2.10.2-3_all.deb
+e61f95f962db610898f50f41f7cd73b4364d7594f92a6ac9f43a29c7d5f1c9ee python-semantic-version/python3-semantic-version_2.9.0-2_all.deb
+END
+}
+
+# Runs speed.py over the package in this folder, and beside the fetched packages: the folder, and options.
+python_speed() {
+    packages=$1
+    shift
+    if fetch_others; then
+        packages=$packages:$out/others/usr/lib/python3/dist-packages
+    else
+        echo "Python: Debian's packages can't be fetched, so its times are compared only with those of packages that python3 finds" >&2
+    fi
+    # From elsewhere, since Python looks for packages beside the script first.
+    cp "$here/python/speed.py" "$out/speed.py"
+    PYTHONPATH=$packages python3 "$out/speed.py" "$@"
+}
+
 # The package from its sources over the counting heap, and as a wheel, which pip installs into an empty environment.
 python() {
     echo "Python"
@@ -115,9 +150,7 @@ python() {
     python3 -m venv "$out/environment"
     "$out/environment/bin/pip" install --quiet --no-index --disable-pip-version-check "$out"/wheel/*.whl
     (cd "$out" && environment/bin/python -m doctest "$here/python/README.md")
-    # From elsewhere, since Python looks for the package beside the script first.
-    cp "$here/python/speed.py" "$out/speed.py"
-    (cd "$out" && PYTHONPATH=$(echo environment/lib/python3*/site-packages) python3 speed.py --brief >speed.log)
+    python_speed "$(echo "$out"/environment/lib/python3*/site-packages)" --brief >"$out/speed.log"
     rm -rf "$out/environment" # rt ci rejects links below the project
     echo "the wheel has $(cat "$out"/wheel/*.whl | wc -c) bytes, and is installed"
 }
@@ -210,7 +243,7 @@ speed() {
     program speed "$kit"
     "$out/speed"
     shared libdeno_semver.so.0 "$kit" -s
-    PYTHONPATH="$here/python" DENO_SEMVER_LIBRARY="$out/libdeno_semver.so.0" python3 "$here/python/speed.py"
+    DENO_SEMVER_LIBRARY="$out/libdeno_semver.so.0" python_speed "$here/python"
     if command -v cargo >/dev/null; then
         registry=$out/registry
         empty_crates

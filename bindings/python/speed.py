@@ -1,20 +1,21 @@
 """The time of an import, and that of 100,000 versions, beside other packages where they are installed: speed.py [--brief]
 
-The status is 1 if an import takes longer than IMPORT milliseconds and than PART of an import of asyncio, since machines differ, or if parsing
-takes longer than with another package, in each of three tries.
+The status is 1 if an import takes more than IMPORT milliseconds of processor time, or if parsing takes longer than with another package, in
+each of three tries.
 With --brief nothing else is measured, and of fewer versions. DENO_SEMVER_LIBRARY is the shared library, by default the one in the package."""
 
 import functools
 import importlib
+import os
 import subprocess
 import sys
+import tempfile
 import time
 
 import deno_semver as semver
 
 IS_BRIEF = "--brief" in sys.argv
 IMPORT = 40
-PART = 2 / 3
 TRIES = 3
 COUNT = 10_000 if IS_BRIEF else 100_000
 TEXTS = [f"{n % 7}.{n % 31}.{n % 101}" + (f"-rc.{n % 5}" if n % 3 == 0 else "") for n in range(COUNT)]
@@ -53,21 +54,23 @@ def beside():
     return {name: [min(it) * 1e3 / COUNT for it in zip(*passes)] for name, passes in times.items()}
 
 
-def of_imports(*modules):
-    """The milliseconds of importing each of these, in fresh processes and in turn."""
-    timed = "import time; start = time.perf_counter(); import {}; print(time.perf_counter() - start)"
-    times = [[float(subprocess.check_output([sys.executable, "-c", timed.format(it)])) for it in modules] for _ in range(5)]
-    return [min(it) * 1e3 for it in zip(*times)]
+def of_import():
+    """The lowest processor time of an import in a fresh process, in milliseconds. The first one leaves bytecode for the others."""
+    timed = "import time; start = time.process_time(); import deno_semver; print(time.process_time() - start)"
+    with tempfile.TemporaryDirectory() as folder:
+        environment = {**os.environ, "PYTHONPYCACHEPREFIX": folder, "PYTHONDONTWRITEBYTECODE": ""}
+        times = [float(subprocess.check_output([sys.executable, "-c", timed], env=environment)) for _ in range(6)]
+    return min(times) * 1e3
 
 
 def bars():
     """Prints these times, and returns what is too slow."""
-    times, (imported, asyncio) = beside(), of_imports("deno_semver", "asyncio")
+    times, imported = beside(), of_import()
     for name, (parsed, shown, numbers, ordered) in times.items():
         print(f"{name}: parse {parsed:.2f}, str {shown:.2f}, the numbers {numbers:.2f}, sort {ordered:.2f} µs a version")
-    print(f"import {imported:.1f} ms, of asyncio {asyncio:.1f} ms")
+    print(f"import {imported:.1f} ms")
     ours, *others = (parsed for parsed, *_ in times.values())
-    return ["an import"] * (imported > max(IMPORT, asyncio * PART)) + ["parsing"] * (ours > min(others, default=ours))
+    return ["an import"] * (imported > IMPORT) + ["parsing"] * (ours > min(others, default=ours))
 
 
 def main():
