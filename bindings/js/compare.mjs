@@ -128,6 +128,15 @@ function whyDiffDiffers([one, other]) {
   return isToRelease || isFromRelease ? 'steps between releases and pre-releases' : whyTextsDiffer([one, other]);
 }
 
+/** The text of the next version of a held one; null where there is none. */
+function next(held, ...step) {
+  try {
+    return held.inc(...step).version;
+  } catch {
+    return null;
+  }
+}
+
 // ---- the calls: what each is asked, why an answer may differ, and how it is asked if it isn't a function of the library
 
 const CALLS = {
@@ -157,6 +166,16 @@ const CALLS = {
     ({ Comparator }, one, other, its) => new Comparator(one, its).intersects(new Comparator(other, its), its),
   ],
   SemVer: [() => [version(), options()], undefined, ({ SemVer }, ...asked) => new SemVer(...asked)],
+  'SemVer.compare': [
+    () => [version(), version(), options()],
+    undefined,
+    ({ SemVer }, one, other, its) => new SemVer(one, its).compare(new SemVer(other, its)),
+  ],
+  'SemVer.inc': [
+    () => [version(), texts.pick(RELEASE_TYPES), options(), texts.pick(IDENTIFIERS), texts.pick(BASES)],
+    whyIncDiffers,
+    ({ SemVer }, item, type, its, ...step) => next(new SemVer(item, its), type, ...step),
+  ],
   parse: [() => [version(), options()]],
   valid: [() => [version(), options()]],
   clean: [() => [version(), options()]],

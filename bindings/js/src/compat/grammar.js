@@ -4,14 +4,16 @@ import { isPlain } from '../plain.js';
 
 export const LONGEST_VERSION = 256;
 const LONGEST_BUILD = LONGEST_VERSION - '0.0.0+'.length;
+const WORD = `[A-Za-z\\d-]{1,${LONGEST_BUILD}}`;
+const WORDS = `${WORD}(?:\\.${WORD})*`;
+const BUILD = new RegExp(`^${WORDS}$`);
 
 function grammarOf(isLoose) {
   const number = isLoose ? '\\d+' : '(?:0|[1-9]\\d*)';
   const part = `(?:${number}|[xX*])`;
   const identifier = `(?:${number}|\\d*[A-Za-z-][A-Za-z\\d-]*)`;
   const pre = `(?:-${isLoose ? '?' : ''}(?<pre>${identifier}(?:\\.${identifier})*))?`;
-  const word = `[A-Za-z\\d-]{1,${LONGEST_BUILD}}`;
-  const build = `(?:\\+(?<build>${word}(?:\\.${word})*))?`;
+  const build = `(?:\\+(?<build>${WORDS}))?`;
   const numbers = `(?<major>${number})\\.(?<minor>${number})\\.(?<patch>${number})`;
   const partial = `[v=\\s]*(?<major>${part})(?:\\.(?<minor>${part})(?:\\.(?<patch>${part})${pre}${build})?)?`;
   return {
@@ -37,7 +39,17 @@ export function isUsual(text) {
   return typeof text === 'string' && text.length <= LONGEST_VERSION && isPlain(text) && !text.startsWith('0.0.0-');
 }
 
+/** Whether the text is a build, without its `+`. */
+export function isBuild(text) {
+  return BUILD.test(text);
+}
+
 /** The regular expressions that these options ask for. */
 export function grammarFor(options) {
   return options.loose ? LOOSE : STRICT;
+}
+
+/** The text without whitespace around it, and with single spaces within it. */
+export function withSingleSpaces(text) {
+  return text.trim().replace(/\s+/g, ' ');
 }

@@ -17,6 +17,11 @@ export function parse(version, options, throwErrors = false) {
   }
 }
 
+/** The text of a version as it is displayed, and `TypeError` where it's invalid. */
+function expectText(version) {
+  return isUsual(version) ? version : parse(version, undefined, true).version;
+}
+
 export function valid(version, options) {
   if (isUsual(version)) return version;
   return parse(version, options)?.version ?? null;
@@ -157,6 +162,5 @@ export function inc(version, releaseType, options, identifier, identifierBase) {
 }
 
 export function diff(one, other) {
-  const [first, second] = [one, other].map((version) => parse(version, undefined, true));
-  return askDifference(first.version, second.version);
+  return askDifference(expectText(one), expectText(other));
 }
