@@ -52,9 +52,13 @@ function fromZero(read, includesPre) {
   return read.set.map(textOfAlternative).join('||');
 }
 
+/** Whether a comparator is like `<2.0.0-0`, which matches the releases that `<2.0.0` matches. */
+function isEnd({ operator, semver }) {
+  return operator === '<' && semver.prerelease.length === 1 && semver.prerelease[0] === 0;
+}
+
 /** The text of an alternative in which `<2.0.0` stands for `<2.0.0-0`, unless a bound is a pre-release of 2.0.0: it is answered ten times faster. */
 function withoutZeros(comparators) {
-  const isEnd = ({ operator, semver }) => operator === '<' && semver.prerelease.length === 1 && semver.prerelease[0] === 0;
   const preReleases = comparators.filter((it) => !isAny(it) && it.semver.prerelease.length > 0 && !isEnd(it));
   const isAlone = ({ semver }) => preReleases.every((it) => it.semver.compareMain(semver) !== 0);
   const texts = comparators.map((it) => (!isAny(it) && isEnd(it) && isAlone(it) ? it.value.slice(0, -'-0'.length) : it.value));
@@ -70,8 +74,55 @@ export function lowestOf(read, includesPre) {
   return code === YES ? text() : null;
 }
 
+// ---- common versions, which are found by the bounds alone unless they may be pre-releases
+
+const FIRST = { major: 0, minor: 0, patch: 0 };
+const NO_END = { major: Infinity, minor: 0, patch: 0 };
+
+const isBelow = (one, other) => (one.major - other.major || one.minor - other.minor || one.patch - other.patch) < 0;
+const higher = (one, other) => (isBelow(one, other) ? other : one);
+const lower = (one, other) => (isBelow(one, other) ? one : other);
+
+/** The numbers of the lowest release above a version. */
+function releaseAbove({ major, minor, patch, prerelease }) {
+  return { major, minor, patch: prerelease.length ? patch : patch + 1 };
+}
+
+/** The releases that an alternative matches: from these numbers to below others. */
+function releasesOf(comparators) {
+  let [from, to] = [FIRST, NO_END];
+  for (const { value, operator, semver } of comparators) {
+    if (value === '') continue;
+    if (operator === '>=' || operator === '') from = higher(from, semver);
+    if (operator === '>') from = higher(from, releaseAbove(semver));
+    if (operator === '<') to = lower(to, semver);
+    if (operator === '<=' || operator === '') to = lower(to, releaseAbove(semver));
+  }
+  return { from, to };
+}
+
+function haveCommonRelease(one, other) {
+  const theirs = other.set.map(releasesOf);
+  return one.set.map(releasesOf).some((it) => theirs.some((that) => isBelow(higher(it.from, that.from), lower(it.to, that.to))));
+}
+
+/** The bounds that are pre-releases. Without `includePrerelease` a range matches no pre-releases but of their numbers. */
+function preReleasesIn({ set }) {
+  return set.flatMap((comparators) => comparators.filter((it) => !isAny(it) && it.semver.prerelease.length > 0 && !isEnd(it)));
+}
+
+function mayHaveCommonPre(one, other) {
+  const theirs = preReleasesIn(other);
+  return theirs.length > 0 && preReleasesIn(one).some((it) => theirs.some((that) => it.semver.compareMain(that.semver) === 0));
+}
+
 /** Whether a version matches both ranges. */
 export function haveCommon(one, other, includesPre) {
+  if (!includesPre && haveCommonRelease(one, other)) return true;
+  return (includesPre || mayHaveCommonPre(one, other)) && haveCommonVersion(one, other, includesPre);
+}
+
+function haveCommonVersion(one, other, includesPre) {
   const isCommon = (version) => matchesEach(one.set, version, includesPre) && matchesEach(other.set, version, includesPre);
   return preReleasesOfZero([one, other], includesPre).some(isCommon) || askBoth(wasm.common, one, other, includesPre);
 }

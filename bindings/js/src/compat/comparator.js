@@ -1,7 +1,7 @@
 // A comparator: an operator and a version, or any version.
 
 import { haveCommon } from './asked.js';
-import { grammarFor, isUsual } from './grammar.js';
+import { grammarFor, isUsual, withSingleSpaces } from './grammar.js';
 import { optionsOf } from './options.js';
 import { SemVer, semverOf } from './semver.js';
 
@@ -26,11 +26,11 @@ export class Comparator {
       if (comparator.loose === Boolean(settings.loose)) return comparator;
       comparator = comparator.value;
     }
-    const source = comparator.trim().split(/\s+/).join(' ');
-    if (!isComparator(source, settings)) throw new TypeError(`Invalid comparator: ${source}`);
+    const source = withSingleSpaces(comparator);
+    const { operator, version } = partsOf(source);
+    if (!isUsual(version) && !isComparator(source, settings)) throw new TypeError(`Invalid comparator: ${source}`);
     this.options = settings;
     this.loose = Boolean(settings.loose);
-    const { operator, version } = partsOf(source);
     this.operator = operator === '=' ? '' : operator;
     this.semver = version ? new SemVer(version, settings.loose) : ANY;
     this.value = version ? this.operator + this.semver.version : '';
@@ -48,9 +48,13 @@ export class Comparator {
 
   intersects(comparator, options) {
     if (!(comparator instanceof Comparator)) throw new TypeError('a Comparator is required');
-    const [one, other] = [this, comparator].map((it) => ({ set: [[it]], range: it.value }));
-    return haveCommon(one, other, Boolean(optionsOf(options).includePrerelease));
+    return haveCommon(asRange(this), asRange(comparator), Boolean(optionsOf(options).includePrerelease));
   }
+}
+
+/** The range of a comparator alone. */
+function asRange(comparator) {
+  return { set: [[comparator]], range: comparator.value };
 }
 
 function partsOf(source) {

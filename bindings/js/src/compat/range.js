@@ -4,7 +4,7 @@ import { kindOf } from '../errors.js';
 import { haveCommon, matches, matchesText, textOf } from './asked.js';
 import { Comparator, isComparator, parsed, valueOf } from './comparator.js';
 import { desugar } from './desugar.js';
-import { isUsual } from './grammar.js';
+import { isUsual, withSingleSpaces } from './grammar.js';
 import { optionsOf } from './options.js';
 
 const MOST_READ = 1000;
@@ -137,10 +137,6 @@ function readOrNull(text, options) {
     if (error instanceof TypeError) return null;
     throw error;
   }
-}
-
-function withSingleSpaces(text) {
-  return text.trim().split(/\s+/).join(' ');
 }
 
 /** The texts of the comparators of each alternative. */
