@@ -3,9 +3,9 @@
 //     node speed.mjs [--brief | --table] [NODE_SEMVER]
 //
 // A time is the best of five runs, in which both are asked in turn. The status is 1 where a call takes longer than node-semver's in each of
-// three tries, or finding the place of an error longer than PARSES parses of a valid range of that length; and where no row asks a function
-// of node-semver, or a method of its classes that compat has. With --brief each is asked less often. With --table the rows are those of a
-// table in Markdown.
+// TRIES tries, or finding the place of an error longer than PARSES parses of a valid range of that length; and where no row asks a function
+// of node-semver, or a method of its classes that compat has. With --brief each is asked less often. With --table the rows are those of
+// tables in Markdown.
 
 import { createRequire } from 'node:module';
 import { performance } from 'node:perf_hooks';
@@ -17,7 +17,7 @@ const [option, folder] = process.argv[2]?.startsWith('--') ? process.argv.slice(
 const isBrief = option === '--brief';
 const isTable = option === '--table';
 const RUNS = 5;
-const TRIES = 3;
+const TRIES = isBrief ? 6 : 3;
 const CALLS = isBrief ? 10_000 : 200_000;
 const RANGES = isBrief ? 1_500 : 20_000; // more than either package caches
 const LIST = isBrief ? 5_000 : 100_000;
@@ -40,21 +40,24 @@ function best(calls) {
   return times;
 }
 
-/** Milliseconds as a text. */
+/** A time in milliseconds as a text, in the unit of the table that it stands in. */
 function shown(time) {
-  const [value, unit] = time < 1e-5 ? [time * 1e6, 'ns'] : time < 0.1 ? [time * 1e3, 'µs'] : [time, 'ms'];
+  const value = unit === 'µs' ? time * 1e3 : time;
   const digits = value < 10 ? 2 : value < 100 ? 1 : 0;
-  return `${value.toLocaleString('en', { minimumFractionDigits: digits, maximumFractionDigits: digits })} ${unit}`;
+  return value.toLocaleString('en', { minimumFractionDigits: digits, maximumFractionDigits: digits });
 }
 
 function print(name, here, there = '') {
   console.log(isTable ? `| ${name} | ${here} | ${there} |` : `${name.padEnd(50)} ${here.padStart(10)} ${there.padStart(18)}`);
 }
 
-/** Begins a table. */
-function head(what) {
-  if (isTable) console.log(`\n| ${what} | Here | node-semver |\n|---|---|---|`);
-  else print(what, 'here', version && `node-semver ${version}`);
+let unit;
+
+/** Begins a table of times in this unit. */
+function head(what, unitOfTable) {
+  unit = unitOfTable;
+  if (isTable) console.log(`\n| ${what}, ${unit} | Here | node-semver |\n|---|---|---|`);
+  else print(`\n${what}, ${unit}`, 'here', version && `node-semver ${version}`);
 }
 
 function fail(message) {
@@ -148,7 +151,6 @@ function imports() {
 const comparing = (values) => (i) => at(values, i).compare(next(values, i));
 
 function printOwn() {
-  row('import, in a fresh process', imports);
   each('match a version and a held range', CALLS, (i) => range.matches(at(versions, i)), there((i) => others.range.test(at(versions, i))));
   each(
     'match two strings, `matches`',
@@ -157,7 +159,7 @@ function printOwn() {
     there((i) => other.satisfies(at(versions, i), RANGE)),
   );
   each(
-    'match two strings, a new range each time, `matches`',
+    'the same with a new range each time',
     RANGES,
     (i) => semver.matches(newRange(i), at(versions, i)),
     there((i) => other.satisfies(at(versions, i), newRange(i))),
@@ -175,12 +177,12 @@ function printOwn() {
     (i) => fails(() => semver.matches(invalid(i), '1.0.0')),
     there((i) => fails(() => new other.Range(invalid(i)))),
   );
-  once(
-    `filter ${shownLength} versions in one call`,
-    () => semver.filter(RANGE, long),
-    there(() => long.filter((it) => others.range.test(it))),
-  );
-  once(`filter ${shownLength} versions of a \`VersionList\``, () => list.filter(range));
+}
+
+function printOwnLists() {
+  row('import, in a fresh process', imports);
+  once('filter in one call', () => semver.filter(RANGE, long), there(() => long.filter((it) => others.range.test(it))));
+  once('filter a `VersionList`', () => list.filter(range));
 }
 
 // ---- node-semver's names: what a library is asked of each, by the number of the call
@@ -271,26 +273,26 @@ function methodsOf(kind, library) {
 }
 
 function labelOf(name) {
-  const [kind, method] = name.split(' ');
-  if (method) return `\`${method}\` of a held \`${kind}\``;
-  return CLASSES.includes(name) ? `\`new ${name}\`` : `\`${name}\``;
+  return `\`${CLASSES.includes(name) ? `new ${name}` : name.replace(' ', '.')}\``;
 }
 
 function printName(name) {
   if (name in OF_VERSIONS) each(labelOf(name), CALLS, ...both(OF_VERSIONS[name]));
-  else if (name in OF_RANGES) each(`${labelOf(name)}, new ranges`, RANGES, ...both(OF_RANGES[name]));
-  else if (name in OF_LISTS) once(`${labelOf(name)} of ${shownLength}`, ...both(OF_LISTS[name]));
-  else fail(`${name}: no row asks it`);
+  else if (name in OF_RANGES) each(labelOf(name), RANGES, ...both(OF_RANGES[name]));
+  else if (!(name in OF_LISTS)) fail(`${name}: no row asks it`);
 }
 
-head('What');
+head('What', 'µs');
 printOwn();
-head('`compat`');
+head('`compat`', 'µs');
 for (const name of namesOf(other ?? compat)) printName(name);
-each('`satisfies`, always the same range', CALLS, ...both(({ satisfies }) => (i) => satisfies(at(versions, i), RANGE)));
+each('`satisfies`, always one range', CALLS, ...both(({ satisfies }) => (i) => satisfies(at(versions, i), RANGE)));
 each('`satisfies`, invalid ranges', RANGES, ...both(({ satisfies }) => (i) => satisfies(at(versions, i), invalid(i))));
+head(`${shownLength} versions`, 'ms');
+printOwnLists();
+for (const name of Object.keys(OF_LISTS)) once(labelOf(name), ...both(OF_LISTS[name]));
 if (!isTable) {
   const many = 'x '.repeat(40_000);
-  console.log('The place of an error in 80 KB, and the parse of a valid range of that length:');
+  console.log('\nThe place of an error in 80 KB, and the parse of a valid range of that length, ms:');
   once('`x x .. !`', () => startIn(`${many}!`), () => startIn(`${many}x`), PARSES);
 }

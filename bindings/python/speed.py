@@ -1,7 +1,7 @@
 """The time of an import, and that of 100,000 versions, beside other packages where they are installed: speed.py [--brief]
 
 The status is 1 if an import takes more than IMPORT milliseconds of processor time, or if parsing takes longer than with another package, in
-each of three tries.
+each of TRIES tries.
 With --brief nothing else is measured, and of fewer versions. DENO_SEMVER_LIBRARY is the shared library, by default the one in the package."""
 
 import functools
@@ -16,7 +16,7 @@ import deno_semver as semver
 
 IS_BRIEF = "--brief" in sys.argv
 IMPORT = 40
-TRIES = 3
+TRIES = 5
 COUNT = 10_000 if IS_BRIEF else 100_000
 TEXTS = [f"{n % 7}.{n % 31}.{n % 101}" + (f"-rc.{n % 5}" if n % 3 == 0 else "") for n in range(COUNT)]
 
