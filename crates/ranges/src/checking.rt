@@ -8,7 +8,7 @@ use crate::errors::{errors_at_end, errors_of, message_of};
 use crate::explaining::has_left_out;
 use crate::findings::{Aside, Cause, Finding, Format, Position, Report};
 use crate::fixing::{Rewritten, apply, pins_of, print_diffs, rewrite, set_above, write_all};
-use crate::known::{Known, Manager, is_of_npm, is_own, known_of, linked_by};
+use crate::known::{Installer, Known, Manager, is_own, known_of, linked_by, named_by};
 use crate::overriding::Overrides;
 use crate::projects::by_project;
 use crate::rewriting::{is_rewritten, is_tag, pieces_of};
@@ -661,18 +661,23 @@ fn is_strict_version(alloc: Global, text: &str) -> Result<bool, AllocError> {
     }
 }
 
-// Checks a package manager with its version.
+// Checks a package manager with its version, as Corepack does. Bun and Deno read their own.
 fn check_manager<O: Write, E: Write>(
     console: &mut Console<O, E>,
     report: &mut Report<'_>,
     entry: &Entry,
 ) -> Result<(), Stop> {
     let (name, version) = entry.text.as_str().split_once('@').unwrap_or(("", ""));
-    let is_name = is_package_name(name) && !name.starts_with('@');
-    if is_name && (version.contains("://") || is_strict_version(console.alloc, version)?) {
+    let number = version.trim();
+    let number = number.strip_prefix('v').unwrap_or(number);
+    let is_exact = version.contains("://") || is_strict_version(console.alloc, number)?;
+    let message = if name.is_empty() || !is_exact {
+        "expected a name and an exact version, such as \"npm@1.2.3\""
+    } else if !matches!(name, "npm" | "pnpm" | "yarn" | "bun" | "deno") {
+        "Corepack refuses it: it knows npm, pnpm and yarn"
+    } else {
         return Ok(());
-    }
-    let message = "expected a name and an exact version, such as \"npm@1.2.3\"";
+    };
     report.add(console, entry, Finding::new(Cause::Refused, message))
 }
 
@@ -750,10 +755,17 @@ struct Names<'e> {
     own: &'e str,
     /// Whether the workspaces have a list of patterns.
     has_packages: bool,
-    /// Whether npm is the package manager; none if nothing says so.
-    is_of_npm: Option<bool>,
+    /// The package manager, if something says which one.
+    manager: Option<Manager>,
     /// Whether `packageManager` says so, and not a lockfile.
     is_named: bool,
+}
+
+impl Names<'_> {
+    // Whether npm isn't the package manager.
+    fn is_of_other(&self) -> bool {
+        self.manager.is_some_and(|manager| manager != Manager::Npm)
+    }
 }
 
 // What is checked: a file, and what holds for it.
@@ -771,8 +783,7 @@ struct Checked<'f> {
     unmatched: &'f [String],
     /// What is known of the workspace.
     known: &'f Known,
-    /// Who installs it.
-    manager: Manager,
+    installer: Installer,
     /// The workspaces that npm links for it, whatever it asks of them, by name.
     linked: &'f HashSet<String>,
     /// The settings of the arguments.
@@ -806,56 +817,75 @@ fn names_in<'e>(
     Ok(names)
 }
 
-// What is said of a section of package.json that npm doesn't read.
-fn unread_by_npm(section: &str) -> Option<&'static str> {
-    match section {
-        "resolutions" => Some("npm doesn't read resolutions"),
-        "pnpm" => Some("npm doesn't read pnpm's settings"),
-        "catalog" | "catalogs" | "workspaces" => Some("npm doesn't read catalogs"),
-        _ => None,
+// What is said of a section of package.json that the package manager doesn't read.
+fn unread_by(manager: Option<Manager>, section: &str) -> Option<&'static str> {
+    match (manager?, section) {
+        (Manager::Npm, "resolutions") => Some("npm doesn't read resolutions"),
+        (Manager::Npm, "pnpm") => Some("npm doesn't read pnpm's settings"),
+        (Manager::Npm, "catalog" | "catalogs" | "workspaces") => Some("npm doesn't read catalogs"),
+        (Manager::Pnpm, "overrides") => Some("pnpm doesn't read npm's overrides"),
+        (Manager::Yarn, "overrides") => Some("Yarn doesn't read overrides"),
+        (Manager::Yarn, "pnpm") => Some("Yarn doesn't read pnpm's settings"),
+        (Manager::Bun, "pnpm") => Some("Bun doesn't read pnpm's settings"),
+        (_, _) => None,
     }
 }
 
-// Whether npm reads an override only if the tree has its package: the manifest doesn't ask for that package itself. A key that names no
-// package is refused in any case.
-fn may_be_unread(names: &Names<'_>, known: &Known, entry: &Entry) -> bool {
+// Whether npm reads an override only if the tree has its package: for what the manifest itself asks for, npm doesn't read it. A key that names
+// no package is refused in any case.
+fn may_be_unread(
+    alloc: Global,
+    names: &Names<'_>,
+    known: &Known,
+    entry: &Entry,
+) -> Result<bool, Stop> {
     let (key, depth) = match entry.kind {
         Kind::Override(_) => (entry.text.as_str(), entry.depth),
         _ if entry.name.as_str() == "." => (entry.object.as_str(), entry.depth.saturating_sub(1)),
         _ => (entry.name.as_str(), entry.depth),
     };
-    let (name, _) = name_and_range(key);
-    let is_direct = depth == 1 && (names.overrides.is_direct(name) || known.is_linked(name));
-    names_package(name) && !is_direct
+    let (name, range) = name_and_range(key);
+    let is_range = range.is_empty() || is_range_of_key(alloc, range, true)?;
+    let is_read = known.is_linked(name) || names.overrides.is_read(alloc, key, is_range)?;
+    Ok(names_package(name) && !(depth == 1 && is_read))
 }
 
 // What is said of a refusal of the entry if npm doesn't read it, or not always.
-fn aside_of(names: &Names<'_>, file: Checked<'_>, entry: &Entry) -> Option<Aside> {
+fn aside_of(
+    alloc: Global,
+    names: &Names<'_>,
+    file: Checked<'_>,
+    entry: &Entry,
+) -> Result<Option<Aside>, Stop> {
     let name = entry.name.as_str();
-    let unread = |why| Some(Aside {
-        rule: Rule::UnreadRange,
-        why,
-    });
     let section = match entry.kind {
         Kind::Mistake(_) if entry.object.as_str() == "dependencies" => "dependencies",
         _ => entry.section,
     };
-    match section {
+    let unread = match section {
         "dependencies" | "peerDependencies" if names.optional.contains(name) => {
-            unread("npm reads optionalDependencies instead")
+            Some("npm reads optionalDependencies instead")
         }
         "peerDependencies" if names.required.contains(name) => {
-            unread("npm reads dependencies instead")
+            Some("npm reads dependencies instead")
         }
-        "overrides" if file.is_of_npm() && may_be_unread(names, file.known, entry) => Some(Aside {
-            rule: Rule::OddOverride,
-            why: "npm reads it only if the tree has the package",
-        }),
-        section if names.is_of_npm == Some(true) && file.is_package() => {
-            unread(unread_by_npm(section)?)
-        }
+        section if file.is_package() => unread_by(names.manager, section),
         _ => None,
+    };
+    if let Some(why) = unread {
+        return Ok(Some(Aside {
+            rule: Rule::UnreadRange,
+            why,
+        }));
     }
+    let is_of_npm = section == "overrides" && file.is_of_npm();
+    if !is_of_npm || !may_be_unread(alloc, names, file.known, entry)? {
+        return Ok(None);
+    }
+    Ok(Some(Aside {
+        rule: Rule::OddOverride,
+        why: "npm reads it only if the tree has the package",
+    }))
 }
 
 // What is said of a protocol that npm doesn't know.
@@ -900,11 +930,12 @@ fn check_relations<'e, O: Write, E: Write>(
 ) -> Result<(), Stop> {
     match entry.section {
         "dependencies" | "devDependencies" | "optionalDependencies" | "peerDependencies" => {
-            if !is_package_name(entry.name.as_str()) {
+            // npm passes over an empty name.
+            if !entry.name.is_empty() && !is_package_name(entry.name.as_str()) {
                 let message = "npm refuses it: no package has such a name";
                 report.add(console, entry, Finding::new(Cause::Refused, message))?;
             }
-            if names.is_of_npm == Some(true) {
+            if names.manager == Some(Manager::Npm) {
                 let is_linked = file.linked.contains(entry.name.as_str());
                 if npm::is_foreign(entry.text.as_str()) && !is_linked {
                     let message = foreign(names.is_named);
@@ -1010,11 +1041,9 @@ fn check_asked<'e, O: Write, E: Write>(
     entry: &'e Entry,
 ) -> Result<(), Stop> {
     // Other package managers take `ssh:` from any host.
-    let is_of_other = names.is_of_npm == Some(false) || file.known.is_of_pnpm();
+    let is_of_other = names.is_of_other() || file.known.is_of_pnpm();
     let is_taken = is_of_other && npm::is_refused_ssh(entry.text.as_str());
-    let is_of_npm = entry.section == "overrides"
-        && file.is_of_npm()
-        && names.is_of_npm != Some(false);
+    let is_of_npm = entry.section == "overrides" && file.is_of_npm() && !names.is_of_other();
     let is_refused = is_of_npm && !refers(entry) && check_compared(console, report, entry)?;
     if !is_taken && !is_refused {
         check_dependency(console, report, entry)?;
@@ -1033,7 +1062,7 @@ fn check_override<'e, O: Write, E: Write>(
 ) -> Result<(), Stop> {
     check_key(console, report, entry, separator)?;
     // Bun takes another range, too; pnpm and yarn don't read npm's overrides.
-    let is_asked = file.is_root && names.is_of_npm != Some(false);
+    let is_asked = file.is_root && !names.is_of_other();
     if is_asked && separator.is_empty() && entry.depth == 1 {
         check_conflict(console, report, entry, &mut names.overrides, file.known)?;
     }
@@ -1163,7 +1192,7 @@ fn check_entries<O: Write, E: Write>(
     file: Checked<'_>,
     entries: &[Entry],
 ) -> Result<(), Stop> {
-    let named = is_of_npm(entries).or(file.manager.named);
+    let named = named_by(entries).or(file.installer.named);
     let mut names = Names {
         asked: HashMap::new(console.alloc),
         peers: names_in(console.alloc, entries, "peerDependencies")?,
@@ -1172,12 +1201,12 @@ fn check_entries<O: Write, E: Write>(
         overrides: Overrides::of(console.alloc, entries)?,
         own: own_name(entries),
         has_packages: entries.iter().any(|entry| entry.kind == Kind::Packages),
-        is_of_npm: named.or(file.manager.locked),
+        manager: named.or(file.installer.locked),
         is_named: named.is_some(),
     };
     for entry in entries {
         report.position.move_to(report.text, entry.start);
-        report.aside = aside_of(&names, file, entry);
+        report.aside = aside_of(console.alloc, &names, file, entry)?;
         check_entry(console, report, &mut names, file, entry)?;
     }
     Ok(())
@@ -1256,11 +1285,12 @@ fn linked_at<R: Runtime + AllocGlobal, O: Write, E: Write>(
     console: &Console<O, E>,
     group: &Group,
     place: usize,
-    manager: Manager,
+    installer: Installer,
 ) -> Result<HashSet<String>, Stop> {
     match (group.paths.get(place), group.roots.get(place)) {
         (Some(path), Some(root))
-            if path.as_str() == root.as_str() && manager.named.or(manager.locked) == Some(true) => {
+            if path.as_str() == root.as_str()
+                && installer.named.or(installer.locked) == Some(Manager::Npm) => {
             linked_by(rt, console, root.as_str())
         }
         (_, _) => Ok(HashSet::new(console.alloc)),
@@ -1299,8 +1329,8 @@ fn check_group<R: Runtime + AllocGlobal, O: Write, E: Write>(
     for (place, path) in group.paths.iter().enumerate() {
         let path = path.as_str();
         let shown = shown_path(rt, report.format, path)?;
-        let manager = known.manager(place);
-        let linked = linked_at(rt, console, group, place, manager)?;
+        let installer = known.installer(place);
+        let linked = linked_at(rt, console, group, place, installer)?;
         let file = Checked {
             path,
             shown: shown.as_str(),
@@ -1309,7 +1339,7 @@ fn check_group<R: Runtime + AllocGlobal, O: Write, E: Write>(
             is_own: place < group.own,
             unmatched: group.unmatched.as_slice(),
             known: &known,
-            manager,
+            installer,
             linked: &linked,
             settings,
             pins: pins.as_slice(),
@@ -1333,8 +1363,8 @@ fn check_rewritten<R: Runtime + AllocGlobal, O: Write, E: Write>(
     let known = known_of(rt, group)?;
     set_above(rt, &mut report.levels, group)?;
     for (place, file) in files.iter().enumerate() {
-        let manager = known.manager(place);
-        let linked = linked_at(rt, console, group, place, manager)?;
+        let installer = known.installer(place);
+        let linked = linked_at(rt, console, group, place, installer)?;
         let file = Checked {
             path: file.path.as_str(),
             shown: file.path.as_str(),
@@ -1343,7 +1373,7 @@ fn check_rewritten<R: Runtime + AllocGlobal, O: Write, E: Write>(
             is_own: place < group.own,
             unmatched: group.unmatched.as_slice(),
             known: &known,
-            manager,
+            installer,
             linked: &linked,
             settings,
             pins: &[],
@@ -1351,6 +1381,30 @@ fn check_rewritten<R: Runtime + AllocGlobal, O: Write, E: Write>(
         status = status.worse(check_text(console, &mut report, file)?);
     }
     Ok(status)
+}
+
+// Says that --fix rewrites nothing, since something can't be read.
+fn complain_of_unread<O: Write, E: Write>(console: &mut Console<O, E>) {
+    let _ = console.complain(
+        "--fix",
+        "nothing is rewritten, since something can't be read",
+    );
+}
+
+// What --fix writes in the files of a group.
+fn rewritten<R: Runtime + AllocGlobal, O: Write, E: Write>(
+    rt: &R,
+    console: &mut Console<O, E>,
+    group: &Group,
+    settings: &[&str],
+) -> Result<Vec<Rewritten>, Stop> {
+    match rewrite(rt, console, group, settings) {
+        Err(Stop::Ended(status)) => {
+            complain_of_unread(console);
+            Err(Stop::Ended(status))
+        }
+        files => files,
+    }
 }
 
 // Prints what --fix would change, and on standard error what it would leave.
@@ -1369,7 +1423,7 @@ fn check_dry<R: Runtime + AllocGlobal, O: Write, E: Write>(
     let report = Report { format, ..*report };
     let mut all = Vec::new(console.alloc);
     for group in groups {
-        all.push(rewrite(rt, console, group, settings)?)?;
+        all.push(rewritten(rt, console, group, settings)?)?;
     }
     let mut status = print_diffs(rt, console, all.as_slice())?;
     console.out.flush()?;
@@ -1404,7 +1458,7 @@ fn fix<R: Runtime + AllocGlobal, O: Write, E: Write>(
         if group.paths.iter().any(|path| path.as_str() == "-") {
             return Ok(console.complain("--fix", "standard input can't be rewritten"));
         }
-        for file in rewrite(rt, console, group, settings)? {
+        for file in rewritten(rt, console, group, settings)? {
             if file.count > 0 {
                 changed.push(file)?;
             }
@@ -1453,6 +1507,9 @@ pub fn check<R: Runtime + AllocGlobal, O: Write, E: Write>(
     let is_dry = matches.get_flag("dry-run");
     if is_dry || matches.get_flag("fix") {
         if status != Status::Answered {
+            if !groups.is_empty() {
+                complain_of_unread(console);
+            }
             return Ok(status);
         }
         if is_dry {
@@ -1468,6 +1525,6 @@ pub fn check<R: Runtime + AllocGlobal, O: Write, E: Write>(
         let checked = check_group(rt, console, &report, group, settings)?;
         status = status.worse(checked);
     }
-    report.format.end(console)?;
+    report.format.end(console, status)?;
     Ok(status)
 }

@@ -173,14 +173,22 @@ impl Format {
         matches!(self, Format::GitHub | Format::Sarif)
     }
 
-    /// Prints what stands behind all findings.
-    pub fn end<O: Write, E: Write>(self, console: &mut Console<O, E>) -> Result<(), Stop> {
+    /// Prints what stands behind all findings, and to SARIF's readers whether each file could be read.
+    pub fn end<O: Write, E: Write>(
+        self,
+        console: &mut Console<O, E>,
+        status: Status,
+    ) -> Result<(), Stop> {
         match self {
             Format::Silent | Format::Lines | Format::GitHub => Ok(()),
             Format::Json => console.end_items(),
             Format::Sarif => {
                 console.end_items()?;
-                print_line(&mut console.out, SARIF_END)
+                let is_whole = matches!(status, Status::Answered | Status::Found);
+                print_line(
+                    &mut console.out,
+                    format_args!(",\"invocations\":[{{\"executionSuccessful\":{is_whole}}}]}}]}}"),
+                )
             }
         }
     }
@@ -269,9 +277,6 @@ const OTHERS: [[&str; 4]; 2] = [
         "Write a range, a version or a specifier, as the message says.",
     ],
 ];
-
-// What follows the results.
-const SARIF_END: &str = "}]}";
 
 // A text as SARIF has it.
 fn sarif_text(alloc: Global, text: &str) -> Result<Value, AllocError> {

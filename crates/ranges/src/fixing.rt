@@ -105,7 +105,8 @@ pub fn pins_of<R: Files + AllocGlobal>(rt: &R, group: &Group) -> Result<Vec<Stri
             continue;
         }
         for entry in entries_of(rt, path.as_str())? {
-            let is_key = entry.section == "resolutions" && entry.kind == Kind::Override("/");
+            // npm compares a key of its overrides with what the manifest asks for, and Yarn one of resolutions.
+            let is_key = matches!(entry.kind, Kind::Override("" | "/"));
             if is_key && entry.text.as_str().contains('@') {
                 pins.push(entry.text.clone()?)?;
             }
@@ -472,7 +473,7 @@ pub fn rewrite<R: Input + Files + AllocGlobal, O: Write, E: Write>(
         if file.left > 0 {
             let (path, ranges) = (Shown(path), Counted(file.left, "range"));
             console.tell(format_args!(
-                "{path}: left {ranges} alone: a key of `resolutions` has the same string"
+                "{path}: left {ranges} alone: a key of `resolutions` or `overrides` has the same string"
             ));
         }
         all.push(file)?;

@@ -48,21 +48,31 @@ pub struct Known {
     /// Whether all of them are known.
     is_whole: bool,
     /// Who installs each file.
-    managers: Vec<Manager>,
+    installers: Vec<Installer>,
+}
+
+/// A package manager.
+#[derive(Clone, Copy, PartialEq, Eq)]
+pub enum Manager {
+    Npm,
+    Pnpm,
+    Yarn,
+    Bun,
+    Other,
 }
 
 /// Who installs a file, by its root.
 #[derive(Clone, Copy)]
-pub struct Manager {
-    /// Whether `packageManager` of the root names npm; none if it names none.
-    pub named: Option<bool>,
-    /// Whether the lockfile beside the root's manifest is npm's; none if there is no lockfile, or those of several package managers.
-    pub locked: Option<bool>,
+pub struct Installer {
+    /// The package manager that `packageManager` of the root names.
+    pub named: Option<Manager>,
+    /// The one that has a lockfile beside the root's manifest; none if several have.
+    pub locked: Option<Manager>,
 }
 
-impl Manager {
+impl Installer {
     // Nothing says who.
-    const UNKNOWN: Manager = Manager {
+    const UNKNOWN: Installer = Installer {
         named: None,
         locked: None,
     };
@@ -137,16 +147,16 @@ impl Known {
             names: BTreeMap::new(alloc),
             direct: None,
             is_whole: false,
-            managers: Vec::new(alloc),
+            installers: Vec::new(alloc),
         }
     }
 
     /// Who installs the file at a place of the group.
-    pub fn manager(&self, place: usize) -> Manager {
-        self.managers
+    pub fn installer(&self, place: usize) -> Installer {
+        self.installers
             .get(place)
             .copied()
-            .unwrap_or(Manager::UNKNOWN)
+            .unwrap_or(Installer::UNKNOWN)
     }
 
     /// Whether the workspace is pnpm's.
@@ -376,71 +386,72 @@ fn is_pattern(entry: &Entry) -> bool {
     entry.kind == Kind::Workspace && entry.section == "workspaces"
 }
 
-// The lockfiles of package managers and pnpm's list of workspaces, each with its package manager.
-const LOCKFILES: [[&str; 2]; 7] = [
-    ["package-lock.json", "npm"],
-    ["npm-shrinkwrap.json", "npm"],
-    ["pnpm-lock.yaml", "pnpm"],
-    ["pnpm-workspace.yaml", "pnpm"],
-    ["yarn.lock", "yarn"],
-    ["bun.lock", "bun"],
-    ["bun.lockb", "bun"],
+// The lockfiles of package managers, and pnpm's list of workspaces.
+const LOCKFILES: [(&str, Manager); 7] = [
+    ("package-lock.json", Manager::Npm),
+    ("npm-shrinkwrap.json", Manager::Npm),
+    ("pnpm-lock.yaml", Manager::Pnpm),
+    ("pnpm-workspace.yaml", Manager::Pnpm),
+    ("yarn.lock", Manager::Yarn),
+    ("bun.lock", Manager::Bun),
+    ("bun.lockb", Manager::Bun),
 ];
 
-// Whether npm is the one package manager that has a lockfile in a folder; none if no one has, or several have.
-fn is_locked_by_npm<R: Files + AllocGlobal>(
-    rt: &R,
-    folder: &str,
-) -> Result<Option<bool>, AllocError> {
-    let mut found = "";
-    for [name, manager] in LOCKFILES {
+// The one package manager that has a lockfile in a folder; none if no one has, or several have.
+fn locked_by<R: Files + AllocGlobal>(rt: &R, folder: &str) -> Result<Option<Manager>, AllocError> {
+    let mut found = None;
+    for (name, manager) in &LOCKFILES {
         let path = format!(in rt.alloc(); "{folder}{name}")?;
         if !fs::exists(rt, path.as_str()).unwrap_or(false) {
             continue;
         }
-        if !found.is_empty() && found != manager {
+        if found.is_some_and(|other| other != *manager) {
             return Ok(None);
         }
-        found = manager;
+        found = Some(*manager);
     }
-    Ok(if found.is_empty() {
-        None
-    } else {
-        Some(found == "npm")
+    Ok(found)
+}
+
+/// The package manager that the entries name.
+pub fn named_by(entries: &[Entry]) -> Option<Manager> {
+    let (name, _) = text_of(entries, Kind::Manager)?
+        .split_once('@')
+        .unwrap_or(("", ""));
+    Some(match name {
+        "npm" => Manager::Npm,
+        "pnpm" => Manager::Pnpm,
+        "yarn" => Manager::Yarn,
+        "bun" => Manager::Bun,
+        _ => Manager::Other,
     })
 }
 
-/// Whether the entries say that npm is the package manager; none if they don't say.
-pub fn is_of_npm(entries: &[Entry]) -> Option<bool> {
-    let manager = text_of(entries, Kind::Manager)?;
-    Some(manager.starts_with("npm@"))
-}
-
 // Who installs the files of a root; an empty path is none.
-fn manager_of<R: Files + AllocGlobal>(rt: &R, root: &str) -> Result<Manager, Stop> {
+fn installer_of<R: Files + AllocGlobal>(rt: &R, root: &str) -> Result<Installer, Stop> {
     if root.is_empty() {
-        return Ok(Manager::UNKNOWN);
+        return Ok(Installer::UNKNOWN);
     }
     let (folder, _) = split_path(root);
-    Ok(Manager {
-        named: is_of_npm(entries_of(rt, root)?.as_slice()),
-        locked: is_locked_by_npm(rt, folder)?,
+    Ok(Installer {
+        named: named_by(entries_of(rt, root)?.as_slice()),
+        locked: locked_by(rt, folder)?,
     })
 }
 
 // Who installs each file of a group. Those of a root stand together.
-fn managers_of<R: Files + AllocGlobal>(rt: &R, group: &Group) -> Result<Vec<Manager>, Stop> {
-    let mut managers = Vec::new(rt.alloc());
-    let (mut last, mut manager) = ("", Manager::UNKNOWN);
+fn installers_of<R: Files + AllocGlobal>(rt: &R, group: &Group) -> Result<Vec<Installer>, Stop> {
+    let mut installers = Vec::new(rt.alloc());
+    let (mut last, mut installer) = ("", Installer::UNKNOWN);
     for root in group.roots.iter() {
         let root = root.as_str();
         if root != last {
-            manager = manager_of(rt, root)?;
+            installer = installer_of(rt, root)?;
             last = root;
         }
-        managers.push(manager)?;
+        installers.push(installer)?;
     }
-    Ok(managers)
+    Ok(installers)
 }
 
 /// The names of the workspaces that npm links for a root, if the root asks for a package by a protocol that npm doesn't know.
@@ -469,7 +480,7 @@ pub fn linked_by<R: Runtime + AllocGlobal, O: Write, E: Write>(
 pub fn known_of<R: Files + AllocGlobal>(rt: &R, group: &Group) -> Result<Known, Stop> {
     let alloc = rt.alloc();
     let mut known = Known::new(alloc);
-    known.managers = managers_of(rt, group)?;
+    known.installers = installers_of(rt, group)?;
     known.workspace = workspace_of(rt, group)?;
     if known.workspace == Workspace::None {
         return Ok(known);

@@ -7,7 +7,7 @@ use semver_req::common::values::Flavour;
 use std::alloc::{AllocError, Global};
 use std::collections::{HashMap, HashSet};
 use terminal::entry::Entry;
-use terminal::npm::{Reading, Source, name_and_range, read_range, source_of};
+use terminal::npm::{Reading, Source, is_remote, name_and_range, read_range, source_of};
 use terminal::sections::Kind;
 
 // The sections of dependencies. Of a package in several of them npm takes the last one.
@@ -68,7 +68,8 @@ fn counts(alloc: Global, range: &str, text: &str) -> Result<bool, AllocError> {
         return Ok(true);
     }
     let Source::Registry(asked) = source_of(text) else {
-        return Ok(text.starts_with("file:") || text.starts_with(['.', '/'].as_slice()));
+        let is_folder = text.starts_with("file:") || text.starts_with(['.', '/'].as_slice());
+        return Ok(is_folder || is_remote(text));
     };
     match read_range(asked).reading {
         Reading::Tag => Ok(true),
@@ -124,9 +125,19 @@ impl<'e> Overrides<'e> {
         }
     }
 
-    /// Whether the manifest itself asks for a package with this name.
-    pub fn is_direct(&self, name: &str) -> bool {
-        self.direct.contains_key(name)
+    /// Whether npm reads this key for what the manifest itself asks for, or stops since it can't compare the two ranges.
+    pub fn is_read(&self, alloc: Global, key: &str, is_range: bool) -> Result<bool, AllocError> {
+        let (name, range) = name_and_range(key);
+        let Some(direct) = self.direct.get(name) else {
+            return Ok(false);
+        };
+        let is_compared = match source_of(direct.text.as_str()) {
+            Source::Registry(asked) if read_range(asked).reading == Reading::Range => {
+                !is_range || read(alloc, asked)?.is_none()
+            }
+            _ => false,
+        };
+        Ok(is_compared || is_range && counts(alloc, range, direct.text.as_str())?)
     }
 
     /// What the manifest itself asks for by this name, if no key before counts for it.

@@ -624,6 +624,7 @@ fn add_workspaces<R: Runtime + AllocGlobal, O: Write, E: Write>(
         let pattern = entry.text.as_str();
         let is_extended = is_extended(pattern);
         let read = with_slashes(alloc, pattern, is_of_npm)?;
+        let read = without_way_back(alloc, read.as_str())?;
         let workspace = if is_extended {
             None
         } else {
@@ -658,6 +659,27 @@ fn with_slashes(alloc: Global, pattern: &str, is_of_npm: bool) -> Result<String,
         } else {
             all.push(c)?;
         }
+    }
+    Ok(all)
+}
+
+// A pattern without the names that a `..` behind them leaves again.
+fn without_way_back(alloc: Global, pattern: &str) -> Result<String, AllocError> {
+    let mut names = Vec::new(alloc);
+    for name in pattern.split('/') {
+        match names.last() {
+            Some(last) if name == ".." && !matches!(*last, "" | "." | ".." | "!" | "**") => {
+                let _ = names.pop();
+            }
+            _ => names.push(name)?,
+        }
+    }
+    let mut all = String::new(alloc);
+    let mut separator = "";
+    for name in names.iter() {
+        all.push_str(separator)?;
+        all.push_str(*name)?;
+        separator = "/";
     }
     Ok(all)
 }

@@ -34,7 +34,7 @@ const KINDS: &[&str] = &[
 const BASES: &[&str] = &["0", "1", "none"];
 
 const STATUSES: &str = "\
-Exit status: 0 yes, or what was asked for; 1 no or none; 2 a tag; 3 an invalid argument or line; 4 unknown arguments;
+Exit status: 0 yes, or there is an answer; 1 no or none; 2 a tag; 3 an invalid argument or line; 4 unknown arguments;
 5 out of memory; 6 input can't be read or output can't be written. check has its own (ranges check --help).
 
 - stands for standard input: for its one line, or for many where a command takes a list.";
@@ -228,7 +228,7 @@ const DRY_RUN: Argument = Argument {
 const EXCLUDE: Argument = Argument {
     name: "exclude",
     form: Form::Values("PATTERN"),
-    help: "In folders, leave out what matches, as a line of .gitignore does; files that you name stay",
+    help: "In folders, leave out what this pattern of .gitignore matches",
 };
 
 const LIST: Argument = Argument {
@@ -327,7 +327,7 @@ const VERSIONS: Argument = Argument {
 const FILES: Argument = Argument {
     name: "FILE",
     form: Form::Texts(0),
-    help: "A package.json, deno.json, import map or pnpm-workspace.yaml, a range per line, a folder, or - for standard input; without any, this folder and its workspaces",
+    help: "A package.json, deno.json, import map, pnpm-workspace.yaml, file with a range per line, folder, or - for standard input; without any, this folder and its workspaces",
 };
 
 const FOLDER: Argument = Argument {
@@ -421,7 +421,7 @@ Exit status: 0 no error; 1 an error, or with --strict a warning, or --dry-run pr
     },
     Entry {
         name: "asked",
-        about: "Print what several manifests ask of the same packages",
+        about: "Print the packages that several manifests ask for, and each range",
         arguments: &[JSON, PRE, EXCLUDE, QUIET, FOLDER, NAMED],
         examples: "\
 Examples:

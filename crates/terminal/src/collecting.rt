@@ -270,6 +270,12 @@ impl Collector {
         }
     }
 
+    // Whether the next value of overrides stands for the package of its object.
+    fn is_stand_in(&self) -> bool {
+        let is_dot = self.key.as_deref() == Some(".");
+        is_dot && self.path.len() > 1 && matches!(self.separator(), Some(("", _)))
+    }
+
     // The key of the next value. npm names an item of a list in place of dependencies by its index.
     fn name(&self) -> Result<String, AllocError> {
         let items = self.open.last().map_or(0, |open| open.items);
@@ -358,6 +364,13 @@ impl Collector {
             }
             let message = "npm refuses it: expected a string, such as \"^1.2\"";
             self.add_kind(index, Kind::Mistake(message), "")?;
+            return Ok(None);
+        }
+        if self.is_stand_in() && shape != Shape::Text {
+            if shape != Shape::Null {
+                let message = "npm refuses it: expected a string, such as \"^1.2\"";
+                self.add_kind(index, Kind::Mistake(message), "overrides")?;
+            }
             return Ok(None);
         }
         let place = self.place();

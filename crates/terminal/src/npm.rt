@@ -281,6 +281,11 @@ fn is_repository(text: &str) -> bool {
     is_name && !looks_like_range(text) || REPOSITORIES.iter().any(is_place)
 }
 
+/// Whether npm takes a text for the URL of a package, and not of a repository.
+pub fn is_remote(text: &str) -> bool {
+    behind_web(text).is_some() && !is_repository(text)
+}
+
 // What stands behind the `#` of a repository: parts with `::` between neighbours, of which one may name a commit or a range, and one a path.
 fn of_repository(behind: &str) -> Source<'_> {
     let mut range = None;
