@@ -2,10 +2,10 @@
 //
 //     node speed.mjs [--brief | --table] [NODE_SEMVER]
 //
-// A time is the best of five runs, in which both are asked in turn. The status is 1 where a call takes longer than node-semver's in each of
-// TRIES tries, or finding the place of an error longer than PARSES parses of a valid range of that length; and where no row asks a function
-// of node-semver, or a method of its classes that compat has. With --brief each is asked less often. With --table the rows are those of
-// tables in Markdown.
+// A time is the best of five runs, in which both are asked in turn. The status is 1 where a call takes longer than node-semver's, by more than
+// noise, in each of TRIES tries, or finding the place of an error longer than PARSES parses of a valid range of that length; and where no row
+// asks a function of node-semver, or a method of its classes that compat has. With --brief each is asked less often. With --table the rows
+// are those of tables in Markdown.
 
 import { createRequire } from 'node:module';
 import { performance } from 'node:perf_hooks';
@@ -22,7 +22,9 @@ const CALLS = isBrief ? 10_000 : 200_000;
 const RANGES = isBrief ? 1_500 : 20_000; // more than either package caches
 const LIST = isBrief ? 5_000 : 100_000;
 const PARSES = 6;
-const RESOLUTION = 5e-6; // milliseconds a call, by which times of the same code differ
+// By so much, and by so many milliseconds a call, times of the same code differ.
+const NOISE = 1.1;
+const RESOLUTION = 5e-6;
 const other = folder && createRequire(import.meta.url)(folder);
 const version = folder && createRequire(import.meta.url)(`${folder}/package.json`).version;
 
@@ -67,7 +69,7 @@ function fail(message) {
 
 /** Prints the milliseconds that `measured` returns, of which the first must be at most so many times the second. */
 function row(name, measured, most = 1) {
-  const isSlow = ([here, there = Infinity]) => here > there * most + RESOLUTION;
+  const isSlow = ([here, there = Infinity]) => here > there * most * NOISE + RESOLUTION;
   let times = measured();
   for (let tries = 1; tries < TRIES && isSlow(times); tries++) times = measured();
   print(name, ...times.map((time) => time && shown(time)));
