@@ -37,7 +37,7 @@ def asked_anew(script, given):
     if not npm or not node:
         return None
     modules = pathlib.Path(npm).resolve().parents[1] / "node_modules"
-    if not (modules / "npm-package-arg").is_dir():
+    if not all((modules / name).is_dir() for name in ("npm-package-arg", "read-package-json-fast")):
         return None
     ran = subprocess.run([node, HERE / script, modules], input=json.dumps(given), capture_output=True, text=True, check=True)
     return json.loads(ran.stdout)
