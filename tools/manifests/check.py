@@ -6,12 +6,16 @@ crates/ranges), which builds the program.
 
 specifiers.jsonl has texts of dependencies, and manifests.jsonl has whole files, each with npm's answer behind it: the type that
 npm-package-arg gives the dependency, or `refused`. The first line of each has the versions of the modules that answered. A manifest is
-refused if npm refuses a dependency, an override or the workspaces, or if it isn't JSON. The texts were written for this table. The answers
-were taken by ask.mjs, which asks the modules npm-package-arg, semver, arborist and map-workspaces that npm brings along; --take takes them anew, of the npm on this
-machine. Where node and npm are here, and the modules have these versions, they are asked each time as well, and must answer the same.
+refused if npm refuses a dependency, an override or the workspaces, as the root or below another package, or if it isn't JSON. The texts were
+written for this table. ask.mjs took the answers: it asks the modules npm-package-arg, semver, arborist and map-workspaces that npm brings
+along; --take takes them anew, of the npm on this machine. Where node and npm are here, and the modules have these versions, they are asked
+each time as well, and must answer the same.
 
 `ranges check` agrees if it reports an error exactly where npm refuses. What it rewrites with --fix must mean the same to npm's semver, of which
-same.mjs asks, and isn't rewritten again. The last line counts; the status is 1 where something differs."""
+same.mjs asks, and isn't rewritten again. The last line counts; the status is 1 where something differs.
+
+To ask npm itself about a manifest, let a server on this machine answer each name with a few versions, and run
+`npm install --package-lock-only --registry=http://127.0.0.1:PORT/` there."""
 import json, pathlib, shutil, subprocess, sys, tempfile
 
 TOP = pathlib.Path(__file__).resolve().parents[2]

@@ -19,12 +19,13 @@ import library
 def main():
     crate = library.find(sys.argv[1])
     jobs = (sys.argv[2:] or ["2"])[0]
-    out = crate.folder / "out"
-    command = [library.kit() / "bin/rattle", "build", *crate.arguments(), "--jobs", jobs, "--incremental", out / "incremental"]
+    kit, out = library.kit(), crate.folder / "out"
+    is_program = (crate.folder / "src/main.rt").exists()
+    command = [kit / "bin/rattle", "build", *crate.arguments(), "--jobs", jobs, "--incremental", out / "incremental"]
     if crate.is_static:
-        command += ["--backend", "llvm", "--toolchain", library.kit() / "toolchain", "-o", out / f"lib{crate.name}.a"]
-    elif (crate.folder / "src/main.rt").exists():
-        command += ["--backend", "llvm", "--toolchain", library.kit() / "toolchain", "-o", out / f"{crate.name}.o"]
+        command += ["--backend", "llvm", "--toolchain", kit / "toolchain", "-o", out / f"lib{crate.name}.a"]
+    elif is_program:
+        command += ["--backend", "llvm", "--toolchain", kit / "toolchain", "-o", out / f"{crate.name}.o"]
     else:
         command += ["-o", crate.rlib]
         crate.rlib.parent.mkdir(parents=True, exist_ok=True)
@@ -33,6 +34,10 @@ def main():
         status = subprocess.run(command, cwd=crate.folder, stdout=log, stderr=subprocess.STDOUT).returncode
         log.seek(0)
         print("".join(line for line in log if re.search(r"error|not proved|^logic=", line)), end="")
+    if status == 0 and is_program:
+        linked = [kit / "bin/rattle-link", "--target", "x86_64-unknown-linux-gnu", "--toolchain", kit / "toolchain", "-o", out / crate.name]
+        archives = [kit / "c/libos_c.a", kit / "c/liblibc_c.a"]
+        status = subprocess.run([*linked, out / f"{crate.name}.o", *archives]).returncode
     return status
 
 
