@@ -454,6 +454,17 @@ def sarif():
         yield None if found == wanted else f"{what} of SARIF: wanted {wanted}, found {found}"
 
 
+def rules():
+    """`ranges check --help` names each rule of docs/RANGES.md, and those that are off where nothing sets them."""
+    wanted = re.findall(r"^### ([a-z-]+)$", (TOP / "docs/RANGES.md").read_text(), re.M)
+    told = run(RANGES, {"arguments": ["check", "--help"]})[0].partition("Rules: ")[2]
+    on, _, rest = told.partition(". Unless you set them, these are off: ")
+    off = rest.partition(";")[0]
+    for what, found, right in (("rules", [*on.split(","), *off.split(",")], wanted), ("rules that are off", off.split(","), RULES_OFF)):
+        names = sorted(name.strip() for name in found)
+        yield None if names == sorted(right) else f"{what} of check --help: wanted {sorted(right)}, found {names}"
+
+
 def diffs():
     """What `--dry-run` prints of files is the unified diff of what they are and of what `--fix` makes of them."""
     for count in (1, 2, 7, 8, 20):
@@ -552,7 +563,7 @@ def main():
     for program in PROGRAMS.values():
         if not program.is_file():
             sys.exit(f"{program} isn't built: run rt ci first")
-    checks = (rows, unwritable, unreadable, long_texts, many_ranges, deep, named, plenty, questions, sarif, diffs, applied, live, changed, pages, memory, scarce, closed)
+    checks = (rows, unwritable, unreadable, long_texts, many_ranges, deep, named, plenty, questions, sarif, rules, diffs, applied, live, changed, pages, memory, scarce, closed)
     if FOLDER:
         checks = (rows,)
     outcomes = [outcome for check in checks for outcome in check()]

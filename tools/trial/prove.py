@@ -1,6 +1,6 @@
 #!/usr/bin/env python3
-"""Proves one crate over the libraries below as `rt ci`, or this script, left them, and leaves its own library or program as they do. What is
-proved is kept, so that after an edit only what changed is proved again; `rt ci` begins from nothing each time.
+"""Proves one crate over the libraries below as `rt ci`, or this script, left them, and leaves its own library or program as they do. What
+is proved is kept, so that after an edit only what changed is proved again; `rt ci` proves a changed crate from nothing.
 
     tools/trial/prove.py NAME [JOBS]
 
