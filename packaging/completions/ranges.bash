@@ -16,7 +16,7 @@ _ranges() {
     fi
     case ${COMP_WORDS[1]} in
         check) options="--color -j --json --github --sarif -c --canonical --fix --dry-run --exclude --files -0 --null --rule --strict -q --quiet -h --help -V --version" ;;
-        asked) options="--color -j --json -p --pre --exclude -q --quiet --package -h --help -V --version" ;;
+        asked) options="--color -j --json -p --pre --exclude -q --quiet --package --apart -h --help -V --version" ;;
         explain) options="--color -j --json -g --grammar -p --pre -h --help -V --version" ;;
         canonical|normal) options="--color -j --json -g --grammar -h --help -V --version" ;;
         min) options="--color -j --json -g --grammar -p --pre -q --quiet -h --help -V --version" ;;
@@ -26,13 +26,13 @@ _ranges() {
         scans) options="--color -j --json -g --grammar -p --pre -q --quiet --where -h --help -V --version" ;;
         package) options="--color -j --json -g --grammar -h --help -V --version" ;;
         reference) options="--color -j --json -h --help -V --version" ;;
-        filter|matches) options="--color -j --json -g --grammar -p --pre -q --quiet -v --invert-match -0 --null --tags --skip-invalid --range -h --help -V --version" ;;
-        best) options="--color -j --json -g --grammar -p --pre -q --quiet -0 --null --tags --skip-invalid --range -h --help -V --version" ;;
-        outdated) options="--color -j --json -g --grammar -p --pre -q --quiet -0 --null --tags --skip-invalid -h --help -V --version" ;;
-        simplify) options="--color -j --json -g --grammar -p --pre -0 --null --tags --skip-invalid -h --help -V --version" ;;
+        filter|matches) options="--color -j --json -g --grammar -p --pre -q --quiet -v --invert-match -0 --null --tags --tag-prefix --skip-invalid --range -h --help -V --version" ;;
+        best) options="--color -j --json -g --grammar -p --pre -q --quiet -0 --null --tags --tag-prefix --skip-invalid --range -h --help -V --version" ;;
+        outdated) options="--color -j --json -g --grammar -p --pre -q --quiet -0 --null --tags --tag-prefix --skip-invalid -h --help -V --version" ;;
+        simplify) options="--color -j --json -g --grammar -p --pre -0 --null --tags --tag-prefix --skip-invalid -h --help -V --version" ;;
         compare) options="--color -j --json -h --help -V --version" ;;
-        sort) options="--color -j --json -r --reverse -0 --null --tags --skip-invalid -h --help -V --version" ;;
-        key) options="--color -j --json -0 --null --tags --skip-invalid -h --help -V --version" ;;
+        sort) options="--color -j --json -r --reverse -0 --null --tags --tag-prefix --skip-invalid -h --help -V --version" ;;
+        key) options="--color -j --json -0 --null --tags --tag-prefix --skip-invalid -h --help -V --version" ;;
         increment) options="--color -j --json --preid --base -h --help -V --version" ;;
         difference) options="--color -j --json -q --quiet -h --help -V --version" ;;
         coerce) options="--color -j --json -p --pre --rtl -h --help -V --version" ;;

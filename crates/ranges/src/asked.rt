@@ -473,7 +473,7 @@ fn hint_at_package<R: Files, O: Write, E: Write>(
 }
 
 /// `ranges asked [FOLDER]`: the packages that several manifests ask for, by name, or those of --package; and the lowest version that all
-/// accept, or two ranges that exclude each other.
+/// accept, or two ranges that exclude each other; with --apart only those with no such version.
 pub fn report<R: Runtime + AllocGlobal, O: Write, E: Write>(
     rt: &R,
     console: &mut Console<O, E>,
@@ -492,6 +492,7 @@ pub fn report<R: Runtime + AllocGlobal, O: Write, E: Write>(
     if manifests.len() == 1 && names.is_empty() {
         console.tell("only one manifest was found: asked compares several");
     }
+    let is_apart = matches.get_flag("apart");
     let packages = all_packages(alloc, manifests.as_slice())?;
     for (name, package) in packages.iter() {
         let is_listed = if names.is_empty() {
@@ -506,6 +507,9 @@ pub fn report<R: Runtime + AllocGlobal, O: Write, E: Write>(
         // Of tags alone nothing is known.
         let is_agreed = agreement.lowest.is_some() || package.askers.is_empty();
         status = status.worse(Status::of(is_agreed));
+        if is_agreed && is_apart {
+            continue;
+        }
         if console.options.json {
             console.item(json(alloc, name.as_str(), package, &agreement))?;
         } else {

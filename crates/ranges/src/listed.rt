@@ -147,7 +147,7 @@ pub fn filter<R: Input, O: Write, E: Write>(
         is_quiet: console.options.quiet,
         has_printed: false,
     };
-    let status = take_all(rt, console, given.matches.get_strs("VERSION"), &mut filter)?;
+    let status = take_all(rt, console, given.matches, &mut filter)?;
     if console.options.json {
         console.end_items()?;
     }
@@ -165,7 +165,7 @@ pub fn best<R: Input, O: Write, E: Write>(
         return Ok(Status::Usage);
     };
     let mut listed = Listed::new(console.alloc, others, console.options.pre_release);
-    let status = take_all(rt, console, given.matches.get_strs("VERSION"), &mut listed)?;
+    let status = take_all(rt, console, given.matches, &mut listed)?;
     Ok(status.worse(print_answer(console, "version", listed.highest(first))?))
 }
 
@@ -183,7 +183,7 @@ pub fn outdated<R: Input, O: Write, E: Write>(
         _ => return Ok(Status::Usage),
     };
     let mut listed = Listed::new(console.alloc, &[], console.options.pre_release);
-    let status = take_all(rt, console, given.matches.get_strs("VERSION"), &mut listed)?;
+    let status = take_all(rt, console, given.matches, &mut listed)?;
     let standing = standing_of(
         console.options.pre_release,
         range,
@@ -218,7 +218,7 @@ pub fn simplify<R: Input, O: Write, E: Write>(
     let _ranges = all_ranges(console, given)?;
     let options = console.options;
     let mut listed = Listed::new(console.alloc, &[], options.pre_release);
-    let status = take_all(rt, console, given.matches.get_strs("VERSION"), &mut listed)?;
+    let status = take_all(rt, console, given.matches, &mut listed)?;
     let mut versions = Vec::new(console.alloc);
     for text in listed.texts.iter() {
         versions.push(text.as_str())?;
@@ -240,7 +240,7 @@ pub fn sort<R: Input, O: Write, E: Write>(
     given: Given<'_, '_>,
 ) -> Result<Status, Stop> {
     let mut listed = Listed::new(console.alloc, &[], console.options.pre_release);
-    let status = take_all(rt, console, given.matches.get_strs("VERSION"), &mut listed)?;
+    let status = take_all(rt, console, given.matches, &mut listed)?;
     let order = if console.options.reverse {
         Order::Descending
     } else {
@@ -301,7 +301,7 @@ pub fn key<R: Input, O: Write, E: Write>(
     console: &mut Console<O, E>,
     given: Given<'_, '_>,
 ) -> Result<Status, Stop> {
-    let status = take_all(rt, console, given.matches.get_strs("VERSION"), &mut Keys {})?;
+    let status = take_all(rt, console, given.matches, &mut Keys {})?;
     if console.options.json {
         console.end_items()?;
     }

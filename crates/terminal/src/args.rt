@@ -53,8 +53,6 @@ pub struct Options {
     pub reverse: bool,
     /// Whether a NUL byte ends each line, of input and of output.
     pub null: bool,
-    /// Whether versions are git's tags.
-    pub tags: bool,
     /// Whether what isn't a version is passed over.
     pub skip_invalid: bool,
 }
@@ -79,7 +77,6 @@ impl Options {
             quiet: matches.get_flag("quiet"),
             reverse: matches.get_flag("reverse"),
             null: matches.get_flag("null"),
-            tags: matches.get_flag("tags"),
             skip_invalid: matches.get_flag("skip-invalid"),
         }
     }
@@ -163,6 +160,12 @@ const TAGS: Argument = Argument {
     name: "tags",
     form: Form::Flag(None, &[]),
     help: "Read git's tags: refs/tags/v1.2.3 is 1.2.3",
+};
+
+const TAG_PREFIX: Argument = Argument {
+    name: "tag-prefix",
+    form: Form::Value("PREFIX", &[]),
+    help: "Read only tags that begin with PREFIX, and what follows it: with react@, react@18.2.0 is 18.2.0",
 };
 
 const SKIP_INVALID: Argument = Argument {
@@ -342,6 +345,12 @@ const NAMED: Argument = Argument {
     help: "Print only this package, even if one manifest alone asks for it",
 };
 
+const APART: Argument = Argument {
+    name: "apart",
+    form: Form::Flag(None, &[]),
+    help: "Print only packages with no version that all accept",
+};
+
 const PACKAGE: Argument = Argument {
     name: "TEXT",
     form: Form::Text(true),
@@ -422,10 +431,11 @@ Exit status: 0 no error; 1 an error, or with --strict a warning, or --dry-run pr
     Entry {
         name: "asked",
         about: "Print the packages that several manifests ask for, and each range",
-        arguments: &[JSON, PRE, EXCLUDE, QUIET, FOLDER, NAMED],
+        arguments: &[JSON, PRE, EXCLUDE, QUIET, FOLDER, NAMED, APART],
         examples: "\
 Examples:
   ranges asked
+  ranges asked --apart
   ranges asked --package react --package react-dom
   ranges asked --json packages",
     },
@@ -528,6 +538,7 @@ const ON_VERSIONS: &[Entry] = &[
             RANGE,
             NULL,
             TAGS,
+            TAG_PREFIX,
             SKIP_INVALID,
             VERSIONS,
             MORE_RANGES,
@@ -550,6 +561,7 @@ Examples:
             RANGE,
             NULL,
             TAGS,
+            TAG_PREFIX,
             SKIP_INVALID,
             VERSIONS,
             MORE_RANGES,
@@ -557,7 +569,8 @@ Examples:
         examples: "\
 Examples:
   ranges best '^1.2' 1.2.0 1.10.0 1.9.9
-  git ls-remote --tags origin | ranges best --tags --skip-invalid '^1.2'",
+  git ls-remote --tags origin | ranges best --tags --skip-invalid '^1.2'
+  git tag | ranges best --tag-prefix react@ '^18'",
     },
     Entry {
         name: "outdated",
@@ -570,6 +583,7 @@ Examples:
             RANGE,
             NULL,
             TAGS,
+            TAG_PREFIX,
             SKIP_INVALID,
             VERSIONS,
         ],
@@ -588,6 +602,7 @@ Examples:
             RANGE,
             NULL,
             TAGS,
+            TAG_PREFIX,
             SKIP_INVALID,
             VERSIONS,
         ],
@@ -608,7 +623,15 @@ Examples:
     Entry {
         name: "sort",
         about: "Sort versions by precedence",
-        arguments: &[JSON, REVERSE, NULL, TAGS, SKIP_INVALID, VERSIONS],
+        arguments: &[
+            JSON,
+            REVERSE,
+            NULL,
+            TAGS,
+            TAG_PREFIX,
+            SKIP_INVALID,
+            VERSIONS,
+        ],
         examples: "\
 Examples:
   ranges sort 1.10.0 1.9.0 1.9.0-rc.1
@@ -617,7 +640,7 @@ Examples:
     Entry {
         name: "key",
         about: "Print the sort key of each version, for a column of a database",
-        arguments: &[JSON, NULL, TAGS, SKIP_INVALID, VERSIONS],
+        arguments: &[JSON, NULL, TAGS, TAG_PREFIX, SKIP_INVALID, VERSIONS],
         examples: "\
 Examples:
   ranges key 1.10.0 1.10.0-beta.2

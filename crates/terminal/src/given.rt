@@ -1,14 +1,11 @@
 //! The texts that a command is given, of which one may be a line of standard input.
 
 use crate::console::{Console, Status, Stop};
-use crate::input::unread;
+use crate::input::{HYPHEN, unread};
 use crate::manifest::unescaped;
 use clap::ArgMatches;
 use std::alloc::{AllocError, Global};
 use std::io::{BufRead, BufReader, Read, Write};
-
-// What stands for standard input.
-const HYPHEN: &str = "-";
 
 /// The arguments of a command, and what a `-` among them stands for.
 #[derive(Clone, Copy)]

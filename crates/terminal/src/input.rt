@@ -3,10 +3,14 @@
 use crate::console::{Console, Status, Stop};
 use crate::manifest::unescaped;
 use crate::shown::Quoted;
+use clap::ArgMatches;
 use semver_base::version::Version;
 use serde_json::Value;
 use std::io;
 use std::io::{BufRead, BufReader, ErrorKind, Read, Write};
+
+// What stands for standard input.
+pub(crate) const HYPHEN: &str = "-";
 
 // The place of a text that may be a version.
 #[derive(Clone, Copy)]
@@ -31,21 +35,31 @@ pub trait Take {
     fn is_done(&self) -> bool;
 }
 
-// Takes a text if it is a version, or a line of git with the name of a tag that is one; reports an invalid one, unless such are
-// passed over.
+// What counts of a line of git with the name of a tag that begins so; none if nothing does.
+fn behind_prefix<'t>(line: &'t str, prefix: &str) -> Option<&'t str> {
+    if line.ends_with("^{}") {
+        // The line repeats the tag before it.
+        return None;
+    }
+    let (_, tag) = line.split_once("refs/tags/").unwrap_or(("", line));
+    tag.strip_prefix(prefix)
+}
+
+// Takes a text if it is a version, or with a prefix, which may be empty, a line of git with the name of a tag that is one behind it;
+// reports an invalid one, unless such are passed over.
 fn take_one<O: Write, E: Write, T: Take>(
     console: &mut Console<O, E>,
     taker: &mut T,
+    prefix: Option<&str>,
     text: &str,
     place: Place,
 ) -> Result<Status, Stop> {
-    let text = if !console.options.tags {
-        text
-    } else if text.ends_with("^{}") {
-        // The line repeats the tag before it.
-        return Ok(Status::Answered);
-    } else {
-        text.split_once("refs/tags/").unwrap_or(("", text)).1
+    let text = match prefix {
+        Some(prefix) => match behind_prefix(text, prefix) {
+            Some(tag) => tag,
+            None => return Ok(Status::Answered),
+        },
+        None => text,
     };
     let failure = match Version::parse_standard(console.alloc, text) {
         Ok(version) => {
@@ -61,6 +75,10 @@ fn take_one<O: Write, E: Write, T: Take>(
         return Ok(Status::Answered);
     }
     match place {
+        // With another argument it doesn't stand for standard input.
+        Place::Argument if text == HYPHEN => {
+            Ok(console.complain(HYPHEN, "stands alone, without versions beside it"))
+        }
         Place::Argument => console.reject_version(text, &failure),
         Place::Input(what, number) => {
             let text = Quoted(text);
@@ -82,6 +100,7 @@ fn without_mark(text: &[u8]) -> &[u8] {
 fn take_line<O: Write, E: Write, T: Take>(
     console: &mut Console<O, E>,
     taker: &mut T,
+    prefix: Option<&str>,
     number: u64,
     line: &[u8],
 ) -> Result<Status, Stop> {
@@ -100,7 +119,7 @@ fn take_line<O: Write, E: Write, T: Take>(
     let place = Place::Input("line", number);
     // Most lines are versions as they are.
     if matches!(text.as_bytes(), [b'0'..=b'9' | b'v', ..]) {
-        return take_one(console, taker, text, place);
+        return take_one(console, taker, prefix, text, place);
     }
     let bare = text.trim();
     if bare.is_empty() {
@@ -111,15 +130,16 @@ fn take_line<O: Write, E: Write, T: Take>(
         && let Some(raw) = rest.strip_suffix('"')
     {
         let text = unescaped(console.alloc, raw)?;
-        return take_one(console, taker, text.as_str(), place);
+        return take_one(console, taker, prefix, text.as_str(), place);
     }
-    take_one(console, taker, text, place)
+    take_one(console, taker, prefix, text, place)
 }
 
 // Takes the items of all that the input holds, of which `line` was read: a JSON array of texts that begins in the line with this number.
 fn take_json<I: BufRead, O: Write, E: Write, T: Take>(
     console: &mut Console<O, E>,
     taker: &mut T,
+    prefix: Option<&str>,
     input: &mut I,
     number: u64,
     line: &mut Vec<u8>,
@@ -131,11 +151,17 @@ fn take_json<I: BufRead, O: Write, E: Write, T: Take>(
         return Ok(console.complain("standard input", "not valid UTF-8"));
     };
     match Value::from_str(console.alloc, text) {
-        Ok(json) => take_items(console, taker, &json),
+        Ok(json) => take_items(console, taker, prefix, &json),
         Err(error) if error.is_memory() => Err(Stop::OutOfMemory),
         Err(error) => {
             let number = number.saturating_add(error.line() as u64).saturating_sub(1);
-            Ok(console.complain(format_args!("line {number}"), "not valid JSON"))
+            let front = text.trim_start_matches(['[', ' ', '\n', '\r'].as_slice());
+            let message = if front.starts_with('\'') {
+                "not valid JSON: npm view prints JSON with --json"
+            } else {
+                "not valid JSON"
+            };
+            Ok(console.complain(format_args!("line {number}"), message))
         }
     }
 }
@@ -144,6 +170,7 @@ fn take_json<I: BufRead, O: Write, E: Write, T: Take>(
 fn take_items<O: Write, E: Write, T: Take>(
     console: &mut Console<O, E>,
     taker: &mut T,
+    prefix: Option<&str>,
     json: &Value,
 ) -> Result<Status, Stop> {
     let Some(items) = json.as_array() else {
@@ -153,7 +180,7 @@ fn take_items<O: Write, E: Write, T: Take>(
     for item in items.iter() {
         number = number.saturating_add(1);
         let taken = match item.as_str() {
-            Some(text) => take_one(console, taker, text, Place::Input("item", number))?,
+            Some(text) => take_one(console, taker, prefix, text, Place::Input("item", number))?,
             None if console.options.skip_invalid => Status::Answered,
             None => console.complain(format_args!("item {number}"), "not a string"),
         };
@@ -189,11 +216,12 @@ pub(crate) fn unread<O: Write, E: Write>(console: &mut Console<O, E>, error: io:
 fn take_arguments<O: Write, E: Write, T: Take>(
     console: &mut Console<O, E>,
     arguments: &[&str],
+    prefix: Option<&str>,
     taker: &mut T,
 ) -> Result<Status, Stop> {
     let mut status = Status::Answered;
     for text in arguments {
-        status = status.worse(take_one(console, taker, text, Place::Argument)?);
+        status = status.worse(take_one(console, taker, prefix, text, Place::Argument)?);
     }
     Ok(status)
 }
@@ -202,10 +230,11 @@ fn take_arguments<O: Write, E: Write, T: Take>(
 fn answer_line<O: Write, E: Write, T: Take>(
     console: &mut Console<O, E>,
     taker: &mut T,
+    prefix: Option<&str>,
     number: u64,
     line: &[u8],
 ) -> Result<Status, Stop> {
-    let status = take_line(console, taker, number, line)?;
+    let status = take_line(console, taker, prefix, number, line)?;
     console.end_part()?;
     Ok(status)
 }
@@ -214,6 +243,7 @@ fn answer_line<O: Write, E: Write, T: Take>(
 fn take_lines<I: BufRead, O: Write, E: Write, T: Take>(
     console: &mut Console<O, E>,
     input: &mut I,
+    prefix: Option<&str>,
     taker: &mut T,
 ) -> Result<Status, Stop> {
     let mut status = Status::Answered;
@@ -229,10 +259,10 @@ fn take_lines<I: BufRead, O: Write, E: Write, T: Take>(
         }
         let text = without_mark(line.as_slice()).trim_ascii_start();
         if is_front && matches!(text, [b'[' | b'{', ..]) {
-            return take_json(console, taker, input, number, &mut line);
+            return take_json(console, taker, prefix, input, number, &mut line);
         }
         is_front &= line.as_slice().trim_ascii().is_empty();
-        status = status.worse(answer_line(console, taker, number, line.as_slice())?);
+        status = status.worse(answer_line(console, taker, prefix, number, line.as_slice())?);
         if taker.is_done() {
             break;
         }
@@ -240,19 +270,28 @@ fn take_lines<I: BufRead, O: Write, E: Write, T: Take>(
     Ok(status)
 }
 
-/// Takes each of the arguments, or without any and for `-` each line of standard input, until no further one counts, or all of it if it
-/// begins with a JSON array or object. The status is that of invalid arguments if one isn't a version.
+// The prefix of git's tags that versions stand behind, if they are such.
+fn prefix_of<'m>(matches: &'m ArgMatches<'_>) -> Option<&'m str> {
+    match matches.get_str("tag-prefix") {
+        None if matches.get_flag("tags") => Some(""),
+        prefix => prefix,
+    }
+}
+
+/// Takes each version among the arguments, or without any and for `-` each line of standard input, until no further one counts, or all
+/// of it if it begins with a JSON array or object. The status is that of invalid arguments if one isn't a version.
 pub fn take_all<R: Input, O: Write, E: Write, T: Take>(
     rt: &R,
     console: &mut Console<O, E>,
-    arguments: Option<&[&str]>,
+    matches: &ArgMatches<'_>,
     taker: &mut T,
 ) -> Result<Status, Stop> {
-    let arguments = arguments.unwrap_or(&[]);
-    if !arguments.is_empty() && arguments != ["-"].as_slice() {
-        return take_arguments(console, arguments, taker);
+    let arguments = matches.get_strs("VERSION").unwrap_or(&[]);
+    let prefix = prefix_of(matches);
+    if !arguments.is_empty() && arguments != [HYPHEN].as_slice() {
+        return take_arguments(console, arguments, prefix, taker);
     }
     console.announce("versions");
     let mut input = BufReader::new(console.alloc, rt.reader())?;
-    take_lines(console, &mut input, taker)
+    take_lines(console, &mut input, prefix, taker)
 }
