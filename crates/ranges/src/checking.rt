@@ -8,7 +8,9 @@ use crate::errors::{errors_at_end, errors_of, message_of};
 use crate::explaining::has_left_out;
 use crate::findings::{Aside, Cause, Finding, Format, Position, Report};
 use crate::fixing::{Rewritten, apply, pins_of, print_diffs, rewrite, set_above, write_all};
-use crate::known::{Installer, Known, Manager, is_own, known_of, linked_by, named_by};
+use crate::known::{
+    Installer, Known, Manager, add_folder_name, is_own, known_of, linked_by, named_by,
+};
 use crate::overriding::Overrides;
 use crate::projects::by_project;
 use crate::rewriting::{is_rewritten, is_tag, pieces_of};
@@ -542,6 +544,27 @@ fn names_package(name: &str) -> bool {
     is_package_name(name) && (is_scoped || matches!(source_of(name), Source::Registry(_)))
 }
 
+// Reports a key of npm's overrides that names no package, and what to write in place of pnpm's `a>b`.
+fn report_key<O: Write, E: Write>(
+    console: &mut Console<O, E>,
+    report: &mut Report<'_>,
+    entry: &Entry,
+) -> Result<(), Stop> {
+    let key = entry.text.as_str();
+    let message = npm::refusal_of_key(key);
+    let Some((outer, inner)) = key.split_once('>') else {
+        return report.add(console, entry, Finding::new(Cause::Refused, message));
+    };
+    if !names_package(outer) || !names_package(name_and_range(inner).0) {
+        return report.add(console, entry, Finding::new(Cause::Refused, message));
+    }
+    let message = format!(in console.alloc;
+        "{message}: write `{{\"{outer}\": {{\"{inner}\": ..}}}}`"
+    )?;
+    let finding = Finding::new(Cause::Refused, message.as_str());
+    report.add(console, entry, finding)
+}
+
 // Checks a key of overrides, in which this text stands before another name.
 fn check_key<O: Write, E: Write>(
     console: &mut Console<O, E>,
@@ -552,8 +575,7 @@ fn check_key<O: Write, E: Write>(
     let key = entry.text.as_str();
     let is_of_npm = separator.is_empty();
     if is_of_npm && !names_package(name_and_range(key).0) {
-        let message = "npm refuses it: Override without name";
-        return report.add(console, entry, Finding::new(Cause::Refused, message));
+        return report_key(console, report, entry);
     }
     let mut start = 0usize;
     for end in ends_in_key(console.alloc, key, separator)?.iter() {
@@ -681,14 +703,20 @@ fn check_manager<O: Write, E: Write>(
     report.add(console, entry, Finding::new(Cause::Refused, message))
 }
 
-// The range of an entry that a section asks a registry for.
-fn asked_range(entry: &Entry) -> Option<&str> {
-    let is_section = matches!(
+// Whether an entry is of a section that asks for packages by their names.
+fn is_asked_by_name(entry: &Entry) -> bool {
+    matches!(
         entry.section,
         "dependencies" | "devDependencies" | "optionalDependencies" | "peerDependencies"
-    );
+    )
+}
+
+// The range of an entry that a section asks a registry for.
+fn asked_range(entry: &Entry) -> Option<&str> {
     match source_of(entry.text.as_str()) {
-        Source::Registry(range) if is_section && range.len() == entry.text.len() => Some(range),
+        Source::Registry(range) if is_asked_by_name(entry) && range.len() == entry.text.len() => {
+            Some(range)
+        }
         _ => None,
     }
 }
@@ -753,6 +781,8 @@ struct Names<'e> {
     overrides: Overrides<'e>,
     /// The name of the file's own package, which may ask for an older version of itself.
     own: &'e str,
+    /// Whether the package is private, and so isn't published.
+    is_private: bool,
     /// Whether the workspaces have a list of patterns.
     has_packages: bool,
     /// The package manager, if something says which one.
@@ -860,6 +890,8 @@ fn aside_of(
     let name = entry.name.as_str();
     let section = match entry.kind {
         Kind::Mistake(_) if entry.object.as_str() == "dependencies" => "dependencies",
+        // An override that is `null` is refused in any case.
+        Kind::Mistake(_) if name != "." => "",
         _ => entry.section,
     };
     let unread = match section {
@@ -910,6 +942,28 @@ fn check_sibling<O: Write, E: Write>(
     let name = entry.name.as_str();
     let message = format!(in console.alloc; "the workspace has {name}@{version}");
     report.tell(console, entry, Rule::OtherVersion, message)
+}
+
+// Whether a manifest says that its package is private.
+fn is_private(file: &str, entries: &[Entry]) -> bool {
+    match entries.iter().find(|entry| entry.kind == Kind::Private) {
+        Some(entry) => {
+            let value = file.get(entry.start..).unwrap_or("");
+            !entry.text.is_empty() || value.starts_with("true")
+        }
+        None => false,
+    }
+}
+
+// Whether an entry is of the patterns of workspaces, or stands in their place.
+fn is_of_workspaces(entry: &Entry) -> bool {
+    let (object, name) = (entry.object.as_str(), entry.name.as_str());
+    match entry.depth {
+        0 => name == "workspaces",
+        1 => object == "workspaces" && matches!(name, "" | "packages"),
+        2 => object == "packages" && name.is_empty(),
+        _ => false,
+    }
 }
 
 // The name that a manifest gives its package; an empty one if it gives none.
@@ -971,6 +1025,11 @@ fn check_relations<'e, O: Write, E: Write>(
     Ok(())
 }
 
+// Whether a name is that of the folder, and doesn't stand in the file.
+fn is_of_folder(entry: &Entry) -> bool {
+    entry.start == entry.end
+}
+
 // Checks the name of a workspace.
 fn check_name<O: Write, E: Write>(
     console: &mut Console<O, E>,
@@ -978,10 +1037,20 @@ fn check_name<O: Write, E: Write>(
     entry: &Entry,
     known: &Known,
 ) -> Result<(), Stop> {
-    match known.refusal_of_name(entry.text.as_str()) {
-        Some(message) => report.add(console, entry, Finding::new(Cause::Refused, message)),
-        None => Ok(()),
-    }
+    let Some(message) = known.refusal_of_name(entry.text.as_str()) else {
+        return Ok(());
+    };
+    let why = if is_of_folder(entry) {
+        "; it is the folder's, since the file has none"
+    } else {
+        ""
+    };
+    let message = format!(in console.alloc; "{message}{why}")?;
+    report.add(
+        console,
+        entry,
+        Finding::new(Cause::Refused, message.as_str()),
+    )
 }
 
 // Checks what a workspace has in place of its name, and isn't a string.
@@ -1045,7 +1114,11 @@ fn check_asked<'e, O: Write, E: Write>(
     let is_taken = is_of_other && npm::is_refused_ssh(entry.text.as_str());
     let is_of_npm = entry.section == "overrides" && file.is_of_npm() && !names.is_of_other();
     let is_refused = is_of_npm && !refers(entry) && check_compared(console, report, entry)?;
-    if !is_taken && !is_refused {
+    // npm links a workspace of the root whatever that asks for by its name.
+    let is_linked = is_asked_by_name(entry)
+        && file.linked.contains(entry.name.as_str())
+        && npm::is_refused(entry.text.as_str());
+    if !is_taken && !is_refused && !is_linked {
         check_dependency(console, report, entry)?;
     }
     check_relations(console, report, names, file, entry)
@@ -1080,11 +1153,12 @@ fn check_entry<'e, O: Write, E: Write>(
     let is_ignored = entry.section == "overrides" && !file.is_root && file.is_of_npm();
     match entry.kind {
         // npm takes no overrides from a workspace.
-        Kind::Dependency | Kind::Override(_) if is_ignored => Ok(()),
+        Kind::Dependency | Kind::Override(_) | Kind::Mistake(_) if is_ignored => Ok(()),
         Kind::Dependency => check_asked(console, report, names, file, entry),
         Kind::Range => check_dependency(console, report, entry),
         Kind::Engine => check_range(console, report, entry, Flavour::Npm, entry.text.as_str()),
         Kind::Specifier => check_specifier(console, report, entry),
+        Kind::Version if names.is_private => Ok(()),
         Kind::Version => check_version(console, report, entry),
         Kind::Manager => check_manager(console, report, entry),
         Kind::Meta if names.peers.contains(entry.name.as_str()) => Ok(()),
@@ -1108,8 +1182,13 @@ fn check_entry<'e, O: Write, E: Write>(
         }
         // npm installs a package whatever its version is.
         Kind::Mistake(message) if entry.depth == 0 && entry.name.as_str() == "version" => {
+            if names.is_private {
+                return Ok(());
+            }
             report.add(console, entry, Finding::by(Rule::OddVersion, message))
         }
+        // npm reads only the workspaces of the root.
+        Kind::Mistake(_) if is_of_workspaces(entry) && !file.is_root => Ok(()),
         Kind::Mistake(message) => report.add(console, entry, Finding::new(Cause::Refused, message)),
         Kind::Workspace if file.is_own && file.unmatched.contains(&entry.text) => {
             let message = "no folder with a manifest matches it";
@@ -1126,6 +1205,8 @@ fn check_entry<'e, O: Write, E: Write>(
             let message = "npm refuses it: workspaces config expects an Array";
             report.add(console, entry, Finding::new(Cause::Refused, message))
         }
+        // Other package managers don't take the folder's name.
+        Kind::Name if is_of_folder(entry) && names.is_of_other() => Ok(()),
         Kind::Name if !file.is_own => check_name(console, report, entry, file.known),
         Kind::OddName if !file.is_own => check_odd_name(console, report, entry, file.known),
         Kind::Workspace
@@ -1133,6 +1214,7 @@ fn check_entry<'e, O: Write, E: Write>(
         | Kind::Packages
         | Kind::Name
         | Kind::OddName
+        | Kind::Private
         | Kind::ImportMap
         | Kind::Level
         | Kind::Setting
@@ -1200,6 +1282,7 @@ fn check_entries<O: Write, E: Write>(
         optional: names_in(console.alloc, entries, "optionalDependencies")?,
         overrides: Overrides::of(console.alloc, entries)?,
         own: own_name(entries),
+        is_private: is_private(report.text, entries),
         has_packages: entries.iter().any(|entry| entry.kind == Kind::Packages),
         manager: named.or(file.installer.locked),
         is_named: named.is_some(),
@@ -1219,7 +1302,10 @@ fn check_text<O: Write, E: Write>(
     file: Checked<'_>,
 ) -> Result<Status, Stop> {
     let text = without_mark(file.text);
-    let entries = entries(console.alloc, file.path, text)?;
+    let mut entries = entries(console.alloc, file.path, text)?;
+    if !file.is_own {
+        add_folder_name(console.alloc, file.path, &mut entries)?;
+    }
     let mut report = Report {
         file: file.shown,
         text,
@@ -1290,9 +1376,10 @@ fn linked_at<R: Runtime + AllocGlobal, O: Write, E: Write>(
     match (group.paths.get(place), group.roots.get(place)) {
         (Some(path), Some(root))
             if path.as_str() == root.as_str()
-                && installer.named.or(installer.locked) == Some(Manager::Npm) => {
-            linked_by(rt, console, root.as_str())
-        }
+                && matches!(
+                    installer.named.or(installer.locked),
+                    None | Some(Manager::Npm)
+                ) => { linked_by(rt, console, root.as_str()) }
         (_, _) => Ok(HashSet::new(console.alloc)),
     }
 }

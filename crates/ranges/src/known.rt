@@ -15,7 +15,7 @@ use terminal::console::{Console, Stop};
 use terminal::entry::Entry;
 use terminal::hints::behind_protocol;
 use terminal::npm::{
-    Source, ends_in_key, is_foreign, is_package_name, name_and_range, renamed, source_of,
+    Source, ends_in_key, is_package_name, is_refused, name_and_range, renamed, source_of,
 };
 use terminal::sections::Kind;
 use terminal::shown::part;
@@ -365,6 +365,59 @@ pub fn is_own(text: &str) -> bool {
     matches!(range, "^" | "~" | "*") || range.starts_with(['.', '/'].as_slice())
 }
 
+// The name that npm gives a workspace without one, by the path of its manifest: that of its folder, behind the scope that the folder above
+// may be. An empty one is none.
+fn folder_name(path: &str) -> &str {
+    let (folder, _) = split_path(path);
+    let folder = folder.trim_end_matches('/');
+    let (above, name) = folder.rsplit_once('/').unwrap_or(("", folder));
+    let scope = above.rsplit('/').next().unwrap_or("");
+    if matches!(name, "." | "..") {
+        ""
+    } else if scope.starts_with('@') {
+        let start = above.len().saturating_sub(scope.len());
+        folder.get(start..).unwrap_or(name)
+    } else {
+        name
+    }
+}
+
+/// Adds the name that npm gives a workspace by its folder, if its manifest gives it none. It stands at the start of the file. What has
+/// patterns of workspaces is taken for a root.
+pub fn add_folder_name(
+    alloc: Global,
+    path: &str,
+    entries: &mut Vec<Entry>,
+) -> Result<(), AllocError> {
+    let name = folder_name(path);
+    let is_read = |entry: &Entry| !(entry.depth == 0 && entry.name.is_empty());
+    let is_other = !path.ends_with("package.json") || name.is_empty();
+    let is_named = |entry: &Entry| is_name(entry) || is_pattern(entry);
+    if is_other || !entries.iter().all(is_read) || entries.iter().any(is_named) {
+        return Ok(());
+    }
+    let entry = Entry {
+        section: "name",
+        object: String::new(alloc),
+        name: String::from_str(alloc, "name")?,
+        depth: 0,
+        text: String::from_str(alloc, name)?,
+        start: 0,
+        end: 0,
+        kind: Kind::Name,
+    };
+    Ok(entries.insert(0, entry)?)
+}
+
+// Whether the entry is the name of the package, or stands in its place.
+fn is_name(entry: &Entry) -> bool {
+    match entry.kind {
+        Kind::Name => !entry.text.is_empty(),
+        Kind::OddName => true,
+        _ => false,
+    }
+}
+
 // Whose workspace a group is, by the manifests of its folder and of those above.
 fn workspace_of<R: Files + AllocGlobal>(rt: &R, group: &Group) -> Result<Workspace, Stop> {
     let mut found = Workspace::None;
@@ -454,7 +507,7 @@ fn installers_of<R: Files + AllocGlobal>(rt: &R, group: &Group) -> Result<Vec<In
     Ok(installers)
 }
 
-/// The names of the workspaces that npm links for a root, if the root asks for a package by a protocol that npm doesn't know.
+/// The names of the workspaces that npm links for a root, if the root asks for a package by what npm refuses.
 pub fn linked_by<R: Runtime + AllocGlobal, O: Write, E: Write>(
     rt: &R,
     console: &Console<O, E>,
@@ -463,12 +516,14 @@ pub fn linked_by<R: Runtime + AllocGlobal, O: Write, E: Write>(
     let alloc = rt.alloc();
     let mut names = HashSet::new(alloc);
     let entries = entries_of(rt, root)?;
-    if !entries.iter().any(|entry| is_foreign(entry.text.as_str())) {
+    let is_bad = |entry: &Entry| entry.kind == Kind::Dependency && is_refused(entry.text.as_str());
+    if !entries.iter().any(is_bad) {
         return Ok(names);
     }
     let members = members_of(rt, console, root)?;
     for member in members.manifests {
-        let entries = entries_of(rt, member.as_str())?;
+        let mut entries = entries_of(rt, member.as_str())?;
+        add_folder_name(alloc, member.as_str(), &mut entries)?;
         if let Some(name) = text_of(entries.as_slice(), Kind::Name) {
             let _ = names.insert(String::from_str(alloc, name)?)?;
         }
@@ -499,7 +554,10 @@ pub fn known_of<R: Files + AllocGlobal>(rt: &R, group: &Group) -> Result<Known, 
         if !is_root && path.as_str().ends_with(WORKSPACE) {
             continue;
         }
-        let entries = entries_of(rt, path.as_str())?;
+        let mut entries = entries_of(rt, path.as_str())?;
+        if !is_root && known.workspace == Workspace::Package {
+            add_folder_name(alloc, path.as_str(), &mut entries)?;
+        }
         known.learn(alloc, path.as_str(), entries.as_slice())?;
         if !path.as_str().ends_with("package.json") {
             continue;

@@ -381,6 +381,10 @@ impl Collector {
                 self.add_kind(index, Kind::OddName, section)?;
                 return Ok(None);
             }
+            (Shape::Other, Some((Kind::Private, section))) => {
+                self.add_kind(index, Kind::Private, section)?;
+                return Ok(None);
+            }
             (Shape::Object, Some((Kind::Meta, section))) => {
                 self.add_kind(index, Kind::Meta, section)?;
                 true
@@ -416,10 +420,10 @@ impl Collector {
             Some(kind) => kind,
             None => return Ok(None),
         };
-        let section = if self.first_key() == "devEngines" {
-            "devEngines"
-        } else {
-            ""
+        let section = match (self.first_key(), kind) {
+            ("devEngines", _) => "devEngines",
+            ("overrides", Kind::Mistake(_)) => "overrides",
+            (_, _) => "",
         };
         self.add_kind(index, kind, section)?;
         Ok(None)

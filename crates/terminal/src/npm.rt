@@ -191,6 +191,19 @@ const REPOSITORIES: [&str; 13] = [
     "ssh:",
 ];
 
+// The protocols that name a host that npm knows.
+const SHORT: [&str; 5] = ["github:", "gitlab:", "bitbucket:", "gist:", "sourcehut:"];
+
+// The protocols of repositories with a host behind them.
+const WITH_HOST: [&str; 6] = [
+    "git:",
+    "git+ssh:",
+    "git+http:",
+    "git+https:",
+    "git+rsync:",
+    "git+ftp:",
+];
+
 // The hosts whose URLs npm takes for repositories.
 const HOSTS: [&str; 5] = [
     "github.com",
@@ -205,13 +218,7 @@ fn behind_web(text: &str) -> Option<&str> {
     behind_protocol(text, "https:").or(behind_protocol(text, "http:"))
 }
 
-// The host of a URL, from what follows its protocol.
-fn host_of(url: &str) -> &str {
-    let path = url.trim_start_matches('/');
-    path.split(['/', '?', '#'].as_slice()).next().unwrap_or("")
-}
-
-// The host of a URL of ssh and the path there, from what follows its `//`. A port follows a colon, or the path does.
+// The host of a URL and the path there, from what follows its `//`. A port follows a colon, or the path does.
 fn host_and_path(url: &str) -> (&str, &str) {
     let place = url.split(['?', '#'].as_slice()).next().unwrap_or("");
     let (front, _) = place.split_once('/').unwrap_or((place, ""));
@@ -240,7 +247,7 @@ fn is_of_gitlab(path: &str) -> bool {
     !user.is_empty() && !name.strip_suffix(".git").unwrap_or(name).is_empty() && !is_archive
 }
 
-// Whether npm finds a repository at this path of a host behind `ssh://`.
+// Whether npm finds a repository at this path of a host.
 fn has_repository(host: &str, path: &str) -> bool {
     let (user, rest) = path.split_once('/').unwrap_or((path, ""));
     let (name, rest) = rest.split_once('/').unwrap_or((rest, ""));
@@ -253,6 +260,7 @@ fn has_repository(host: &str, path: &str) -> bool {
         "bitbucket.org" => is_there && kind != "get",
         "gist.github.com" => (!user.is_empty() || !name.is_empty()) && kind != "raw",
         "gitlab.com" => is_of_gitlab(path),
+        "git.sr.ht" => is_there && kind != "archive",
         _ => false,
     }
 }
@@ -266,17 +274,42 @@ pub fn is_refused_ssh(text: &str) -> bool {
         return true;
     };
     let (host, path) = host_and_path(url);
-    !has_repository(host, path) || has_bad_escape(url)
+    host == "git.sr.ht" || !has_repository(host, path) || has_bad_escape(url)
+}
+
+// The host of a repository that is written as `git@HOST:PATH`, as git takes it.
+fn host_for_git(text: &str) -> Option<&str> {
+    let place = text.split('#').next().unwrap_or("");
+    let (user, place) = place.split_once('@')?;
+    let (host, path) = place.split_once(':')?;
+    let is_there = !user.is_empty() && host.contains('.') && !path.is_empty();
+    if is_there && !host.contains('/') && !user.contains([':', '/'].as_slice()) {
+        Some(host)
+    } else {
+        None
+    }
+}
+
+// Whether npm takes every repository of a host by its URL.
+fn is_known_host(host: &str) -> bool {
+    HOSTS.contains(&host.strip_prefix("www.").unwrap_or(host))
 }
 
 // Whether a text without its `#` is the place of a repository, or its name on GitHub.
 fn is_repository(text: &str) -> bool {
     if let Some(url) = behind_web(text) {
-        let host = host_of(url);
-        return HOSTS.contains(&host.strip_prefix("www.").unwrap_or(host));
+        let (host, path) = host_and_path(url.trim_start_matches('/'));
+        // npm takes `http:` only from GitHub.
+        let is_taken = behind_protocol(text, "https:").is_some()
+            || matches!(host, "github.com" | "www.github.com");
+        return is_taken && has_repository(host, path);
+    }
+    if let Some(host) = host_for_git(text) {
+        return is_known_host(host);
     }
     let names_one = |(_, name): (&str, &str)| !name.is_empty() && !name.contains('/');
-    let is_name = text.split_once('/').is_some_and(names_one) && !has_protocol(text);
+    let is_sign = |c: char| c.is_whitespace() || matches!(c, '@' | ':');
+    let is_name = text.split_once('/').is_some_and(names_one) && !text.contains(is_sign);
     let is_place = |front: &&str| behind_protocol(text, *front).is_some();
     is_name && !looks_like_range(text) || REPOSITORIES.iter().any(is_place)
 }
@@ -316,11 +349,54 @@ fn of_repository(behind: &str) -> Source<'_> {
     }
 }
 
-// Whether a text is a URL of the web without a host, or with whitespace in it.
-fn lacks_host(text: &str) -> bool {
-    let url = text.strip_prefix("git+").unwrap_or(text);
-    let is_none = |host: &str| host.is_empty() || host.contains(|c: char| c.is_whitespace());
-    behind_web(url).is_some_and(|url| is_none(host_of(url)))
+// Whether a URL may have this host, a colon and this port behind its user.
+fn is_host(place: &str, is_of_web: bool) -> bool {
+    // An address of IPv6 stands in brackets.
+    let (address, rest) = match place.strip_prefix('[') {
+        Some(behind) => behind.split_once(']').unwrap_or(("", "[")),
+        None => ("", place),
+    };
+    let (host, port) = rest.split_once(':').unwrap_or((rest, ""));
+    let is_port = port.is_empty() || is_number(port) && port.parse::<u16>().is_ok();
+    let is_sign = |c: char| c.is_whitespace() || "<>^|[]".contains(c);
+    let is_there = host.is_empty() != address.is_empty();
+    is_port && is_there && !host.contains(is_sign) && !(is_of_web && has_bad_escape(host))
+}
+
+// Whether npm takes what stands behind `git+ssh://` for `git@HOST:PATH`: no number follows a colon.
+fn has_path_behind_colon(url: &str) -> bool {
+    let place = url.split('#').next().unwrap_or("");
+    let (front, behind) = place.split_once(':').unwrap_or(("", ""));
+    let is_digit = |c: char| c.is_ascii_digit();
+    let is_there = !front.is_empty() && !behind.is_empty();
+    is_there && !behind.split(':').any(|part| part.starts_with(is_digit))
+}
+
+// What follows the `//` in the URL of a repository with a host.
+fn behind_slashes(text: &str) -> Option<&str> {
+    for front in &WITH_HOST {
+        if let Some(url) = behind_protocol(text, front) {
+            return url.strip_prefix("//");
+        }
+    }
+    None
+}
+
+// Whether a text is a URL whose host or port npm doesn't take.
+fn has_bad_host(text: &str) -> bool {
+    let (url, is_of_web) = match behind_web(text) {
+        Some(url) => (url.trim_start_matches(['/', '\\'].as_slice()), true),
+        None => (behind_slashes(text).unwrap_or(""), false),
+    };
+    if behind_protocol(text, "git+ssh:").is_some() && has_path_behind_colon(url) {
+        return false;
+    }
+    let is_end = |c: char| matches!(c, '/' | '?' | '#') || is_of_web && c == '\\';
+    let place = url.split(is_end).next().unwrap_or("");
+    let (_, place) = place.rsplit_once('@').unwrap_or(("", place));
+    let (host, _) = place.split_once(':').unwrap_or((place, ""));
+    // Only a URL of the web needs a host, and npm mends one of a host that it knows.
+    (is_of_web || !place.is_empty()) && !is_known_host(host) && !is_host(place, is_of_web)
 }
 
 // Whether some `%` isn't followed by two hexadecimal digits.
@@ -333,9 +409,23 @@ fn has_bad_escape(text: &str) -> bool {
     text.split('%').skip(1).any(is_bad)
 }
 
+// Whether npm reads an escape in a text as in the path of a file, or in the name of a repository or of a commit, and can't.
+fn has_refused_escape(text: &str) -> bool {
+    let (place, commit) = text.split_once('#').unwrap_or((text, ""));
+    let path = place.split('?').next().unwrap_or("");
+    let is_place = |front: &&str| behind_protocol(text, *front).is_some();
+    if SHORT.iter().any(is_place) {
+        return has_bad_escape(path) || has_bad_escape(commit);
+    }
+    let is_file = is_path(text) || behind_protocol(text, "file:").is_some();
+    let is_named = !has_protocol(text) && (text.contains('/') || is_archive(text));
+    // npm takes a name on GitHub with such an escape for a folder.
+    (is_file || is_named) && has_bad_escape(path)
+}
+
 /// Where a dependency comes from, by its text. The protocols of other package managers are known as well.
 pub fn source_of(text: &str) -> Source<'_> {
-    if (is_path(text) || behind_protocol(text, "file:").is_some()) && has_bad_escape(text) {
+    if has_refused_escape(text) {
         return Source::Refused("npm refuses it: two hexadecimal digits follow a `%`");
     }
     if is_path(text) {
@@ -363,13 +453,23 @@ pub fn source_of(text: &str) -> Source<'_> {
     if is_refused_ssh(text) {
         return Source::Refused("npm refuses it: write `git+ssh:` in place of `ssh:`");
     }
-    if lacks_host(text) {
-        return Source::Refused("npm refuses it: the URL has no valid host");
+    if has_bad_host(text) {
+        return Source::Refused("npm refuses it: the URL has no valid host or port");
     }
     if let Some((place, behind)) = text.split_once('#')
         && is_repository(place)
     {
         return of_repository(behind);
+    }
+    match host_for_git(text) {
+        // A gist has a name alone.
+        Some("gist.github.com") => return Source::Elsewhere,
+        Some(host) if !is_known_host(host) && text.contains('/') => {
+            return Source::Odd(
+                "npm reads it as a folder: write `git+ssh://git@HOST/PATH` for a repository",
+            );
+        }
+        _ => (),
     }
     if is_protocol(text) {
         return Source::Elsewhere;
@@ -403,6 +503,17 @@ const FOREIGN: [&str; 7] = [
     "exec:",
     "jsr:",
 ];
+
+/// Whether npm refuses the text of a dependency, which another package manager may take.
+pub fn is_refused(text: &str) -> bool {
+    let is_bad = |reading: Reading| matches!(reading, Reading::Refused | Reading::TooLarge);
+    match source_of(text) {
+        _ if is_foreign(text) => true,
+        Source::Refused(_) => true,
+        Source::Registry(range) => is_bad(read_range(range).reading),
+        Source::Elsewhere | Source::Odd(_) => false,
+    }
+}
 
 /// Whether the text of a dependency has a protocol of other package managers than npm.
 pub fn is_foreign(text: &str) -> bool {
@@ -864,6 +975,23 @@ pub fn number_behind_zero(text: &str) -> Option<&str> {
         }
     }
     None
+}
+
+/// Why npm refuses a key of overrides that names no package. It reads a key without a slash as a range or a tag.
+pub fn refusal_of_key(key: &str) -> &'static str {
+    let (name, _) = name_and_range(key);
+    let is_place = is_path(name) || name.contains(['/', ':'].as_slice()) || is_archive(name);
+    let is_refused = matches!(
+        read_range(key).reading,
+        Reading::Refused | Reading::TooLarge
+    );
+    if !is_place && name.len() < key.len() {
+        "npm refuses it: Invalid package name"
+    } else if !is_place && is_refused {
+        "npm refuses it: Invalid tag name"
+    } else {
+        "npm refuses it: Override without name"
+    }
 }
 
 /// Whether the text refers to a dependency, as a text of overrides may.

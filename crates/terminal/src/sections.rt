@@ -31,6 +31,8 @@ pub enum Kind {
     Name,
     /// Something else in place of that name.
     OddName,
+    /// Whether the package is private.
+    Private,
     /// A key of overrides: the name of a package, and perhaps a range behind an `@`. This text stands before another name, if one may follow.
     Override(&'static str),
     /// The object that workspaces may be.
@@ -55,7 +57,7 @@ struct Section(&'static [&'static str], Kind, usize);
 // Anything else is passed over.
 const NEVER: usize = 100;
 
-const SECTIONS: [Section; 30] = [
+const SECTIONS: [Section; 31] = [
     Section(&["dependencies", "*"], Kind::Dependency, 1),
     Section(&["devDependencies", "*"], Kind::Dependency, 1),
     Section(&["peerDependencies", "*"], Kind::Dependency, 1),
@@ -74,6 +76,7 @@ const SECTIONS: [Section; 30] = [
     Section(&["packageManager"], Kind::Manager, 1),
     Section(&["version"], Kind::Version, 1),
     Section(&["name"], Kind::Name, NEVER),
+    Section(&["private"], Kind::Private, NEVER),
     Section(&["imports", "*"], Kind::Specifier, 1),
     Section(&["scopes", "*", "*"], Kind::Specifier, 1),
     Section(&["importMap"], Kind::ImportMap, NEVER),
