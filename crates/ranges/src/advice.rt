@@ -177,7 +177,7 @@ pub fn has_match(piece: &Piece) -> bool {
     }
 }
 
-/// The places of alternatives that another contains, each with that other's. Of two that match the same, the second is needless.
+/// The places of alternatives that another contains, each with that of the first such. Of two that match the same, the second is needless.
 pub fn contained(alloc: Global, pieces: &[Piece]) -> Result<Vec<(usize, usize)>, AllocError> {
     let mut pairs = Vec::new(alloc);
     if pieces.len() > MANY {
@@ -193,6 +193,7 @@ pub fn contained(alloc: Global, pieces: &[Piece]) -> Result<Vec<(usize, usize)>,
                 && (other_place < place || !is_contained(alloc, other, piece)?);
             if is_needless {
                 pairs.push((place, other_place))?;
+                break;
             }
         }
     }
