@@ -920,13 +920,22 @@ fn aside_of(
     }))
 }
 
-// What is said of a protocol that npm doesn't know.
-fn foreign(is_named: bool) -> &'static str {
-    if is_named {
+// Reports a protocol that npm, which is the package manager, doesn't know.
+fn check_protocol<O: Write, E: Write>(
+    console: &mut Console<O, E>,
+    report: &mut Report<'_>,
+    names: &Names<'_>,
+    entry: &Entry,
+) -> Result<(), Stop> {
+    if names.manager != Some(Manager::Npm) || !npm::is_foreign(entry.text.as_str()) {
+        return Ok(());
+    }
+    let message = if names.is_named {
         "npm doesn't know this protocol, and `packageManager` is npm"
     } else {
         "npm doesn't know this protocol, and the lockfile is npm's"
-    }
+    };
+    report.add(console, entry, Finding::new(Cause::Refused, message))
 }
 
 // Reports that the workspace has a package in another version than a dependency asks for.
@@ -990,10 +999,8 @@ fn check_relations<'e, O: Write, E: Write>(
                 report.add(console, entry, Finding::new(Cause::Refused, message))?;
             }
             if names.manager == Some(Manager::Npm) {
-                let is_linked = file.linked.contains(entry.name.as_str());
-                if npm::is_foreign(entry.text.as_str()) && !is_linked {
-                    let message = foreign(names.is_named);
-                    report.add(console, entry, Finding::new(Cause::Refused, message))?;
+                if !file.linked.contains(entry.name.as_str()) {
+                    check_protocol(console, report, names, entry)?;
                 }
             } else if let Some(message) = file.known.refusal(console.alloc, entry)? {
                 let finding = Finding::new(Cause::Refused, message.as_str());
@@ -1006,6 +1013,9 @@ fn check_relations<'e, O: Write, E: Write>(
         "overrides" | "pnpm" if file.is_root => {
             if file.is_of_npm() {
                 check_reference(console, report, entry, &names.overrides)?;
+            }
+            if entry.section == "overrides" && file.is_of_npm() {
+                check_protocol(console, report, names, entry)?;
             }
             let is_of_pnpm = entry.section == "pnpm" || !file.is_of_npm();
             if is_of_pnpm
