@@ -3,11 +3,12 @@
 use crate::rules::Rule;
 use answers::asking::{Answer, Problem};
 use answers::explained::{Comparator, Matches, Meaning, Piece};
-use answers::questions::version_outside;
+use answers::questions::{common_version, version_outside};
 use deno_semver::{PreRelease, RangeBound, Version, VersionBound, VersionBoundKind, VersionRange};
 use semver_req::common::values::Flavour;
 use std::alloc::{AllocError, Global};
-use terminal::npm::{number_behind_wildcard, number_behind_zero};
+use terminal::npm::{Reading, as_read, number_behind_wildcard, number_behind_zero, read_range};
+use terminal::shown::Quoted;
 
 /// More alternatives than these aren't compared with one another.
 const MANY: usize = 32;
@@ -16,12 +17,85 @@ const MANY: usize = 32;
 pub const EMPTY_AT_END: &str =
     "node-semver reads the empty part behind the last `||` as every version";
 
-/// What node-semver makes of separators that Deno takes.
-pub const SEPARATORS: &str = "node-semver refuses `,` and `&&`: write a space";
-
-/// Whether a range has such separators.
+/// Whether a range has separators that Deno takes, and npm doesn't.
 pub fn has_separators(range: &str) -> bool {
     range.contains(',') || range.contains("&&")
+}
+
+/// Whether some version matches both ranges.
+pub fn have_common_version(alloc: Global, one: &str, other: &str) -> Result<bool, AllocError> {
+    match common_version(alloc, Flavour::Npm, PreRelease::Restricted, &[one, other]) {
+        Ok(Answer::Value(lowest)) => Ok(lowest.is_some()),
+        Ok(Answer::Tag(_)) | Err(Problem::Invalid(_)) => Ok(false),
+        Err(Problem::OutOfMemory) => Err(AllocError),
+    }
+}
+
+// Whether the text is a range that no version matches.
+fn is_unmatched(alloc: Global, range: &str) -> Result<bool, AllocError> {
+    match common_version(alloc, Flavour::Npm, PreRelease::Restricted, &[range]) {
+        Ok(Answer::Value(lowest)) => Ok(lowest.is_none()),
+        Ok(Answer::Tag(_)) | Err(Problem::Invalid(_)) => Ok(false),
+        Err(Problem::OutOfMemory) => Err(AllocError),
+    }
+}
+
+/// What to write in place of a separator in a range: `||` for a comma where no version matches all that it separates.
+pub fn hint_of(alloc: Global, range: &str) -> Result<&'static str, AllocError> {
+    for part in range.split("||") {
+        if has_separators(part) && is_unmatched(alloc, part)? {
+            return Ok(if part.contains(',') {
+                ": write `||`"
+            } else {
+                ""
+            });
+        }
+    }
+    Ok(if has_separators(range) {
+        ": write a space"
+    } else {
+        ""
+    })
+}
+
+/// What is said of a word of a range that npm ignores.
+pub fn ignored(alloc: Global, range: &str, word: &str) -> Result<String, AllocError> {
+    let is_separated = has_separators(word);
+    let hint = if is_separated {
+        hint_of(alloc, range)?
+    } else {
+        ""
+    };
+    let is_none = match as_read(alloc, range)? {
+        Some(read) => is_unmatched(alloc, read.as_str())?,
+        None => false,
+    };
+    let then = if is_none {
+        ", so no version matches"
+    } else {
+        ""
+    };
+    format!(in alloc; "npm ignores {}{then}{hint}", Quoted(word))
+}
+
+/// What npm makes of a range with a `,` or `&&`.
+pub fn of_separators(alloc: Global, range: &str) -> Result<Option<String>, AllocError> {
+    if !has_separators(range) {
+        return Ok(None);
+    }
+    let read = read_range(range);
+    Ok(Some(match (read.reading, read.ignored, read.dropped) {
+        (Reading::Range, Some(word), _) => ignored(alloc, range, word)?,
+        (Reading::Range, None, Some(dropped)) => {
+            let hint = hint_of(alloc, range)?;
+            format!(in alloc; "npm leaves out `{dropped}`{hint}")?
+        }
+        (_, _, _) => {
+            let hint = hint_of(alloc, range)?;
+            let separator = if range.contains(',') { "," } else { "&&" };
+            format!(in alloc; "npm refuses `{separator}`{hint}")?
+        }
+    }))
 }
 
 // Whether a word is a version with a wildcard in place of its third number, and a pre-release behind that.
@@ -72,8 +146,8 @@ pub fn differences(
 /// How node-semver, and so npm, reads a range differently, separators included.
 pub fn notes(alloc: Global, range: &str, pieces: &[Piece]) -> Result<Vec<String>, AllocError> {
     let mut all = Vec::new(alloc);
-    if has_separators(range) {
-        all.push(String::from_str(alloc, SEPARATORS)?)?;
+    if let Some(note) = of_separators(alloc, range)? {
+        all.push(note)?;
     }
     for difference in differences(alloc, range, pieces)? {
         all.push(difference)?;

@@ -24,9 +24,7 @@ use terminal::console::{Console, Status, Stop, print_line};
 use terminal::entry::Entry;
 use terminal::hints::behind_protocol;
 use terminal::manifest::entries;
-use terminal::npm::{
-    Reading, Source, is_package_name, read_range, renamed, source_of, without_ignored,
-};
+use terminal::npm::{Reading, Source, as_read, is_package_name, read_range, renamed, source_of};
 use terminal::sections::Kind;
 use terminal::shown::{Quoted, Shown};
 
@@ -203,7 +201,7 @@ fn text_read(alloc: Global, asked: &Request) -> Result<String, AllocError> {
     let is_loose = read.reading == Reading::Range && read.ignored.is_some();
     if is_loose
         && asked.flavour == Flavour::Npm
-        && let Some(kept) = without_ignored(alloc, text)?
+        && let Some(kept) = as_read(alloc, text)?
     {
         return Ok(kept);
     }

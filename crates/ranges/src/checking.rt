@@ -1,8 +1,8 @@
 //! `ranges check`: the ranges of package.json, deno.json, import maps and lists of ranges.
 
 use crate::advice::{
-    EMPTY_AT_END, SEPARATORS, bound_of_pre_releases, differences, has_match, has_separators,
-    warnings,
+    EMPTY_AT_END, bound_of_pre_releases, differences, has_match, have_common_version, hint_of,
+    ignored, of_separators, warnings,
 };
 use crate::errors::{errors_at_end, errors_of, message_of};
 use crate::explaining::has_left_out;
@@ -16,9 +16,9 @@ use crate::projects::by_project;
 use crate::rewriting::{is_rewritten, is_tag, pieces_of};
 use crate::rules::{Level, Levels, Rule, Unknown};
 use crate::walking::{Group, Manifests, find, path_in_repository, read_file, without_mark};
-use answers::asking::{Answer, Problem};
+use answers::asking::Problem;
 use answers::explained::{Explanation, Meaning, Piece, explain};
-use answers::questions::{common_version, displayed};
+use answers::questions::displayed;
 use clap::ArgMatches;
 use deno_semver::PreRelease;
 use package_answers::errors::PackageErrors;
@@ -70,9 +70,13 @@ fn refuse<O: Write, E: Write>(
         };
         report.add(console, entry, finding)?;
     }
-    let message = if range.contains(',') {
-        "npm refuses `,`: write a space"
-    } else if range.contains('\u{85}') {
+    if range.contains(',') {
+        let hint = hint_of(console.alloc, range)?;
+        let message = format!(in console.alloc; "npm refuses `,`{hint}")?;
+        let finding = Finding::new(Cause::Refused, message.as_str());
+        return report.add(console, entry, finding);
+    }
+    let message = if range.contains('\u{85}') {
         "npm refuses U+0085: JavaScript doesn't take it for whitespace"
     } else if reading == Reading::TooLarge {
         excess(range)
@@ -108,18 +112,18 @@ fn compare_with_npm<O: Write, E: Write>(
             report_left_out(console, report, entry, range, read.dropped.is_some())?;
         }
         Some(dropped) => {
-            let why = if dropped.contains(',') {
-                ": `,` isn't read"
+            let hint = if dropped.contains(',') {
+                hint_of(console.alloc, dropped)?
             } else {
                 ""
             };
-            let message = format!(in console.alloc; "npm leaves out `{dropped}`{why}");
+            let message = format!(in console.alloc; "npm leaves out `{dropped}`{hint}");
             report.tell(console, entry, Rule::DroppedAlternative, message)?;
         }
         None => (),
     }
-    if let Some(ignored) = read.ignored {
-        report_ignored(console, report, entry, ignored, None)?;
+    if let Some(word) = read.ignored {
+        report_ignored(console, report, entry, range, word, None)?;
     }
     Ok(())
 }
@@ -154,20 +158,16 @@ fn report_left_out<O: Write, E: Write>(
     }
 }
 
-// Reports a word that npm ignores.
+// Reports a word of a range that npm ignores.
 fn report_ignored<O: Write, E: Write>(
     console: &mut Console<O, E>,
     report: &mut Report<'_>,
     entry: &Entry,
-    ignored: &str,
+    range: &str,
+    word: &str,
     errors: Option<&PackageErrors>,
 ) -> Result<(), Stop> {
-    let hint = if ignored.contains(',') || ignored.contains("&&") {
-        ": write a space"
-    } else {
-        ""
-    };
-    let message = format!(in console.alloc; "npm ignores {}{hint}", Quoted(ignored))?;
+    let message = ignored(console.alloc, range, word)?;
     let finding = Finding {
         errors,
         ..Finding::by(Rule::IgnoredComparator, message.as_str())
@@ -191,6 +191,51 @@ fn warn_of_hyphen<O: Write, E: Write>(
     report.tell(console, entry, Rule::OddVersion, message)
 }
 
+// The alternatives of a dependency or an engine as npm reads them, if it reads another range than Deno; none of them where Deno can't.
+fn pieces_of_npm(alloc: Global, entry: &Entry, range: &str) -> Result<Option<Vec<Piece>>, Stop> {
+    let read = npm::read_range(range);
+    let is_other = match entry.kind {
+        Kind::Dependency => read.ignored.is_some() || read.dropped.is_some(),
+        Kind::Engine => false,
+        _ => return Ok(None),
+    };
+    if !is_other && npm::number_behind_wildcard(range).is_none() {
+        return Ok(None);
+    }
+    // Deno passes over the empty alternative at the end, which is reported.
+    let range = range.trim_end();
+    match npm::as_read(alloc, range.strip_suffix("||").unwrap_or(range))? {
+        Some(read) => pieces_of(alloc, Flavour::Npm, read.as_str()),
+        None => Ok(Some(Vec::new(alloc))),
+    }
+}
+
+// Reports what is odd about the alternatives of a range.
+fn warn_of_pieces<O: Write, E: Write>(
+    console: &mut Console<O, E>,
+    report: &mut Report<'_>,
+    entry: &Entry,
+    range: &str,
+    pieces: &[Piece],
+) -> Result<(), Stop> {
+    let alloc = console.alloc;
+    let read = pieces_of_npm(alloc, entry, range)?;
+    let warnings = match &read {
+        Some(read) => warnings(alloc, read.as_slice())?,
+        None => warnings(alloc, pieces)?,
+    };
+    // What is said of an ignored word or a refusal is enough.
+    let read = npm::read_range(range);
+    let is_read = read.reading == Reading::Range && read.ignored.is_none();
+    let is_said = entry.kind == Kind::Dependency && !is_read;
+    for (rule, warning) in warnings.iter() {
+        if *rule != Rule::NoMatch || !is_said {
+            report.add(console, entry, Finding::by(*rule, warning.as_str()))?;
+        }
+    }
+    Ok(())
+}
+
 // Reports what is odd about a range, given its alternatives and its canonical form.
 fn warn<O: Write, E: Write>(
     console: &mut Console<O, E>,
@@ -203,7 +248,7 @@ fn warn<O: Write, E: Write>(
     let alloc = console.alloc;
     if entry.kind == Kind::Dependency {
         compare_with_npm(console, report, entry, range, pieces)?;
-    } else if has_left_out(pieces) {
+    } else if has_left_out(pieces) && entry.kind != Kind::Engine {
         report_left_out(console, report, entry, range, true)?;
     }
     if entry.kind != Kind::Specifier {
@@ -212,17 +257,16 @@ fn warn<O: Write, E: Write>(
             report.add(console, entry, finding)?;
         }
     }
-    if entry.kind != Kind::Dependency && has_separators(range) {
-        let finding = Finding::by(Rule::IgnoredComparator, SEPARATORS);
+    if entry.kind != Kind::Dependency
+        && let Some(message) = of_separators(alloc, range)?
+    {
+        let finding = Finding::by(Rule::IgnoredComparator, message.as_str());
         report.add(console, entry, finding)?;
     }
     if entry.kind != Kind::Specifier {
         warn_of_hyphen(console, report, entry, range)?;
     }
-    let warnings = warnings(alloc, pieces)?;
-    for (rule, warning) in warnings.iter() {
-        report.add(console, entry, Finding::by(*rule, warning.as_str()))?;
-    }
+    warn_of_pieces(console, report, entry, range, pieces)?;
     if let Some(piece) = bound_of_pre_releases(pieces) {
         let message = format!(in alloc; "a bound of `{piece}` is a pre-release");
         report.tell(console, entry, Rule::PreReleaseBound, message)?;
@@ -276,8 +320,8 @@ fn report_invalid<O: Write, E: Write>(
     let errors = errors_at_end(console.alloc, flavour, entry.text.as_str(), range)?;
     let read = npm::read_range(range);
     match (entry.kind, read.reading, read.ignored) {
-        (Kind::Dependency, Reading::Range, Some(ignored)) => {
-            report_ignored(console, report, entry, ignored, Some(&errors))
+        (Kind::Dependency, Reading::Range, Some(word)) => {
+            report_ignored(console, report, entry, range, word, Some(&errors))
         }
         (Kind::Dependency, Reading::Range, None) => {
             let message = "npm reads a range that Deno doesn't";
@@ -293,17 +337,8 @@ fn report_invalid<O: Write, E: Write>(
             let message = "npm reads it as a tag: is a range meant?";
             report.add_with(console, entry, Cause::Rule(Rule::OddTag), message, &errors)
         }
-        (Kind::Engine, _, _) if keeps_out(entry) => Ok(()),
-        (Kind::Engine, _, _) => {
-            let message = "not a version range: no version satisfies it";
-            report.add_with(
-                console,
-                entry,
-                Cause::Rule(Rule::OddEngine),
-                message,
-                &errors,
-            )
-        }
+        // npm reads it.
+        (Kind::Engine, _, _) => Ok(()),
         (_, _, _) => report.add_with(
             console,
             entry,
@@ -336,13 +371,6 @@ fn check_tag<O: Write, E: Write>(
             }
             Reading::Range | Reading::Tag => (),
         }
-    }
-    if keeps_out(entry) {
-        return Ok(());
-    }
-    if entry.kind == Kind::Engine {
-        let message = "a tag, which no version satisfies";
-        return report.add(console, entry, Finding::by(Rule::OddEngine, message));
     }
     match question(tag) {
         Some(question) => report.add(console, entry, Finding::by(Rule::OddTag, question)),
@@ -377,6 +405,46 @@ fn check_range<O: Write, E: Write>(
         Err(Problem::Invalid(_)) => report_invalid(console, report, entry, flavour, range),
         Err(Problem::OutOfMemory) => Err(Stop::OutOfMemory),
     }
+}
+
+// Checks the range of an engine, which npm reads strictly.
+fn check_engine<O: Write, E: Write>(
+    console: &mut Console<O, E>,
+    report: &mut Report<'_>,
+    entry: &Entry,
+) -> Result<(), Stop> {
+    let (alloc, text) = (console.alloc, entry.text.as_str());
+    let Some(refused) = npm::refused_part(text) else {
+        return check_range(console, report, entry, Flavour::Npm, text);
+    };
+    if keeps_out(entry) {
+        return Ok(());
+    }
+    if is_tag(alloc, Flavour::Npm, text)? {
+        let message = "a tag, which no version satisfies";
+        return report.add(console, entry, Finding::by(Rule::OddEngine, message));
+    }
+    let is_range = match pieces_of(alloc, Flavour::Npm, text)? {
+        Some(pieces) => !has_left_out(pieces.as_slice()),
+        None => false,
+    };
+    if is_range {
+        let hint = hint_of(alloc, text)?;
+        let message = format!(in alloc;
+            "npm refuses {}, so no version satisfies the range{hint}",
+            Quoted(refused)
+        );
+        return report.tell(console, entry, Rule::OddEngine, message);
+    }
+    let errors = errors_at_end(alloc, Flavour::Npm, text, text)?;
+    let message = "not a version range: no version satisfies it";
+    report.add_with(
+        console,
+        entry,
+        Cause::Rule(Rule::OddEngine),
+        message,
+        &errors,
+    )
 }
 
 // ---- entries
@@ -497,8 +565,11 @@ fn check_specifier<O: Write, E: Write>(
 
 // Whether a range behind the name in a key of overrides is one: npm reads it strictly, and has no tags there.
 fn is_range_of_key(alloc: Global, range: &str, is_of_npm: bool) -> Result<bool, Stop> {
+    if is_of_npm {
+        return Ok(npm::refused_part(range).is_none());
+    }
     let Some(pieces) = pieces_of(alloc, Flavour::Npm, range)? else {
-        return Ok(!is_of_npm && is_tag(alloc, Flavour::Npm, range)?);
+        return is_tag(alloc, Flavour::Npm, range);
     };
     let is_range = !has_left_out(pieces.as_slice());
     let read = npm::read_range(range);
@@ -721,17 +792,15 @@ fn asked_range(entry: &Entry) -> Option<&str> {
     }
 }
 
-// Whether some version matches both ranges.
-fn have_common_version(alloc: Global, one: &str, other: &str) -> Result<bool, AllocError> {
-    match common_version(alloc, Flavour::Npm, PreRelease::Restricted, &[one, other]) {
-        Ok(Answer::Value(lowest)) => Ok(lowest.is_some()),
-        Ok(Answer::Tag(_)) | Err(Problem::Invalid(_)) => Ok(false),
-        Err(Problem::OutOfMemory) => Err(AllocError),
-    }
-}
-
-// Whether both ranges match versions, and none in common.
+// Whether both ranges, as npm reads them, match versions, and none in common.
 fn are_disjoint(alloc: Global, one: &str, other: &str) -> Result<bool, AllocError> {
+    let Some(one) = npm::as_read(alloc, one)? else {
+        return Ok(false);
+    };
+    let Some(other) = npm::as_read(alloc, other)? else {
+        return Ok(false);
+    };
+    let (one, other) = (one.as_str(), other.as_str());
     Ok(
         have_common_version(alloc, one, one)?
             && have_common_version(alloc, other, other)?
@@ -1166,7 +1235,7 @@ fn check_entry<'e, O: Write, E: Write>(
         Kind::Dependency | Kind::Override(_) | Kind::Mistake(_) if is_ignored => Ok(()),
         Kind::Dependency => check_asked(console, report, names, file, entry),
         Kind::Range => check_dependency(console, report, entry),
-        Kind::Engine => check_range(console, report, entry, Flavour::Npm, entry.text.as_str()),
+        Kind::Engine => check_engine(console, report, entry),
         Kind::Specifier => check_specifier(console, report, entry),
         Kind::Version if names.is_private => Ok(()),
         Kind::Version => check_version(console, report, entry),

@@ -15,7 +15,7 @@ use terminal::console::{Console, Stop};
 use terminal::entry::Entry;
 use terminal::hints::behind_protocol;
 use terminal::npm::{
-    Source, ends_in_key, is_package_name, is_refused, name_and_range, renamed, source_of,
+    Source, as_read, ends_in_key, is_package_name, is_refused, name_and_range, renamed, source_of,
 };
 use terminal::sections::Kind;
 use terminal::shown::part;
@@ -344,8 +344,11 @@ impl Known {
             "" | "*" => PreRelease::Admitted,
             _ => PreRelease::Restricted,
         };
+        let Some(read) = as_read(alloc, range)? else {
+            return Ok(None);
+        };
         match self.versions.get(name) {
-            Some(version) if !is_match(alloc, pre_release, range, version.as_str())? => {
+            Some(version) if !is_match(alloc, pre_release, read.as_str(), version.as_str())? => {
                 Ok(Some(version.as_str()))
             }
             _ => Ok(None),

@@ -7,7 +7,9 @@ use semver_req::common::values::Flavour;
 use std::alloc::{AllocError, Global};
 use std::collections::{HashMap, HashSet};
 use terminal::entry::Entry;
-use terminal::npm::{Reading, Source, is_remote, name_and_range, read_range, source_of};
+use terminal::npm::{
+    Reading, Source, as_read, is_remote, name_and_range, read_range, refused_part, source_of,
+};
 use terminal::sections::Kind;
 
 // The sections of dependencies. Of a package in several of them npm takes the last one.
@@ -42,9 +44,12 @@ fn key_of(entry: &Entry) -> Option<&str> {
     }
 }
 
-// The range or the tag that a text is; none if it is neither.
+// The range that npm reads in a text; none if it reads none, or Deno can't.
 fn read(alloc: Global, text: &str) -> Result<Option<VersionReq>, AllocError> {
-    match reading::range(alloc, Flavour::Npm, 0, text) {
+    let Some(range) = as_read(alloc, text)? else {
+        return Ok(None);
+    };
+    match reading::range(alloc, Flavour::Npm, 0, range.as_str()) {
         Ok(range) => Ok(Some(range)),
         Err(Problem::Invalid(_)) => Ok(None),
         Err(Problem::OutOfMemory) => Err(AllocError),
@@ -133,7 +138,7 @@ impl<'e> Overrides<'e> {
         };
         let is_compared = match source_of(direct.text.as_str()) {
             Source::Registry(asked) if read_range(asked).reading == Reading::Range => {
-                !is_range || read(alloc, asked)?.is_none()
+                !is_range || refused_part(asked).is_some()
             }
             _ => false,
         };

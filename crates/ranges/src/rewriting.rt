@@ -14,8 +14,8 @@ use terminal::console::Stop;
 use terminal::entry::Entry;
 use terminal::hints::corrected;
 use terminal::npm::{
-    Reading, Source, is_reference, number_behind_wildcard, number_behind_zero, read_range, renamed,
-    source_of,
+    Reading, Source, is_reference, number_behind_wildcard, number_behind_zero, read_range,
+    refused_part, renamed, source_of,
 };
 use terminal::sections::Kind;
 use terminal::shown::part;
@@ -201,8 +201,11 @@ fn shortened(
 
 // Whether a range with mistakes is corrected: npm refuses it, or a rule that isn't off finds it. Of a tag that is only a guess.
 fn is_found(levels: &Levels, kind: Kind, range: &str) -> bool {
+    if kind == Kind::Engine {
+        return refused_part(range).is_some() && levels.of(Rule::OddEngine) != Level::Off;
+    }
     if kind != Kind::Dependency {
-        return kind != Kind::Engine || levels.of(Rule::OddEngine) != Level::Off;
+        return true;
     }
     let read = read_range(range);
     let rule = match read.reading {
@@ -256,7 +259,11 @@ pub fn better(
 ) -> Result<Option<String>, Stop> {
     let (range, flavour) = (found.range, found.flavour);
     let has_commas = range.contains(',') || range.contains('&');
-    if has_commas && levels.of(Rule::IgnoredComparator) == Level::Off {
+    let rule = match kind {
+        Kind::Engine => Rule::OddEngine,
+        _ => Rule::IgnoredComparator,
+    };
+    if has_commas && levels.of(rule) == Level::Off {
         return Ok(None);
     }
     let spaced = with_spaces(alloc, range)?;
@@ -275,7 +282,8 @@ pub fn better(
     let is_odd = text.trim_end().ends_with("||")
         || text.contains("0.0.0-")
         || number_behind_zero(text).is_some()
-        || has_dropped_number(text);
+        || has_dropped_number(text)
+        || kind == Kind::Engine && refused_part(text).is_some();
     if is_odd || flavour == Flavour::Npm && !is_read_alike(text) {
         return Ok(None);
     }

@@ -105,7 +105,7 @@ pub const RULES: [About; COUNT] = [
         name: "ignored-comparator",
         level: Level::Warning,
         finds: "npm ignores a word that isn't a comparator.",
-        help: "Write `||` for `or`, and a space for `and`, `,` and `&&`.",
+        help: "Write `||` for `or`, a space for `and` and `&&`, and one of the two for `,`.",
     },
     About {
         rule: Rule::MetaWithoutRange,

@@ -2,6 +2,8 @@
 //! tested alone.
 
 use crate::hints::{behind_protocol, is_protocol};
+use semver_req::common::values::Flavour;
+use semver_req::error_places::pieces::invalid_pieces_behind;
 use std::alloc::{AllocError, Global};
 
 /// Where a dependency comes from.
@@ -577,20 +579,85 @@ fn ends_version(text: &str) -> bool {
     }
 }
 
+// Whether the text is a number with a zero in front.
+fn has_zero(text: &str) -> bool {
+    text.len() > 1 && text.starts_with('0') && is_number(text)
+}
+
+// Whether a pre-release and a build may be this text in the strict grammar.
+fn ends_version_strictly(text: &str) -> bool {
+    let (pre, is_build) = match text.split_once('+') {
+        Some((pre, build)) => (pre, are_identifiers(build)),
+        None => (text, true),
+    };
+    let is_pre = match pre.strip_prefix('-') {
+        Some(pre) => are_identifiers(pre) && !pre.split('.').any(has_zero),
+        None => pre.is_empty(),
+    };
+    is_pre && is_build
+}
+
+// How npm reads a range.
+#[derive(Clone, Copy, PartialEq, Eq)]
+enum Mode {
+    /// It ignores what isn't a comparator, as in dependencies.
+    Loose,
+    /// It refuses that, as in `engines` and in the keys of `overrides`.
+    Strict,
+}
+
 // What may stand for a version.
 #[derive(Clone, Copy, PartialEq, Eq)]
 enum Form {
     Whole,
     /// It may lack numbers, or have wildcards.
     Partial,
+    /// The same behind a `~`.
+    Tilde,
     /// The same behind a `^`.
     Caret,
 }
 
+// Whether a version in this form, as npm reads it loosely, with these signs in front of its numbers is one in the strict grammar, too.
+fn is_strict(signs: &str, numbers: &str, form: Form) -> bool {
+    let (major, rest) = numbers.split_once('.').unwrap_or((numbers, ""));
+    let (minor, last) = rest.split_once('.').unwrap_or((rest, ""));
+    let patch_end = last
+        .find(|c: char| !c.is_ascii_digit())
+        .unwrap_or(last.len());
+    let (patch, behind) = last.split_at_checked(patch_end).unwrap_or((last, ""));
+    let behind = if patch.is_empty() {
+        behind
+            .strip_prefix(['x', 'X', '*'].as_slice())
+            .unwrap_or(behind)
+    } else {
+        behind
+    };
+    let is_full = is_number(major) && is_number(minor) && is_number(patch);
+    let has_signs = !matches!(signs, "" | "v") && matches!(form, Form::Whole | Form::Partial);
+    let has_zeros = has_zero(major) || has_zero(minor) || has_zero(patch);
+    !has_zeros && !(is_full && has_signs) && ends_version_strictly(behind)
+}
+
 // What npm makes of a version in this form.
-fn version(text: &str, form: Form) -> Word {
+fn version(text: &str, form: Form, mode: Mode) -> Word {
+    let numbers = text.trim_start_matches(['v', '='].as_slice());
+    match read_version(numbers, form) {
+        Word::Ignored => Word::Ignored,
+        found => {
+            let signs = text.strip_suffix(numbers).unwrap_or("");
+            if mode == Mode::Strict && !is_strict(signs, numbers, form) {
+                Word::Ignored
+            } else {
+                found
+            }
+        }
+    }
+}
+
+// What npm makes of a version in this form, without signs, where it reads loosely.
+fn read_version(text: &str, form: Form) -> Word {
     let is_whole = form == Form::Whole;
-    let text = text.trim_start_matches(['v', '='].as_slice());
     let (major, rest) = match text.split_once('.') {
         Some((major, rest)) => (major, Some(rest)),
         None => (text, None),
@@ -642,21 +709,23 @@ fn behind_operator(text: &str) -> &str {
 }
 
 // What npm makes of a word behind an operator that stands alone, or behind nothing.
-fn word_of(operator: &str, word: &str) -> Word {
+fn word_of(operator: &str, word: &str, mode: Mode) -> Word {
     let (is_tilde, bare) = match operator {
-        "^" | "^=" => return version(word, Form::Caret),
+        "^" | "^=" => return version(word, Form::Caret, mode),
         "~" | "~=" | "~>" | "~>=" => (true, word),
         "" => match (word.strip_prefix('^'), word.strip_prefix('~')) {
-            (Some(bare), _) => return version(bare, Form::Caret),
+            (Some(bare), _) => return version(bare, Form::Caret, mode),
             (_, Some(bare)) => (true, bare),
             (None, None) => (false, behind_operator(word)),
         },
+        "<" | ">" => (false, word.strip_prefix('=').unwrap_or(word)),
         _ => (false, word),
     };
     if is_tilde {
-        return version(bare.strip_prefix('>').unwrap_or(bare), Form::Partial);
+        let bare = bare.strip_prefix('>').unwrap_or(bare);
+        return version(bare, Form::Tilde, mode);
     }
-    match version(bare, Form::Partial) {
+    match version(bare, Form::Partial, mode) {
         Word::Ignored => (),
         // No version is below all others or above them.
         Word::Any if matches!(operator, "<" | ">") => return Word::Comparator,
@@ -667,11 +736,11 @@ fn word_of(operator: &str, word: &str) -> Word {
     }
     // npm drops the first `*` of any other word, with the operator in front of it.
     match bare.split_once('*') {
-        Some(("", behind)) => version(behind_operator(behind), Form::Whole),
+        Some(("", behind)) => version(behind_operator(behind), Form::Whole, mode),
         Some((before, "")) => {
             let before = before.strip_suffix('=').unwrap_or(before);
             let before = before.strip_suffix(['<', '>'].as_slice()).unwrap_or(before);
-            version(before, Form::Whole)
+            version(before, Form::Whole, mode)
         }
         _ => Word::Ignored,
     }
@@ -752,6 +821,7 @@ impl<'t> Operator<'t> {
 // An alternative as npm reads it.
 #[derive(Clone, Copy)]
 struct Alternative<'t> {
+    mode: Mode,
     is_kept: bool,
     is_too_large: bool,
     ignored: Option<&'t str>,
@@ -773,15 +843,17 @@ impl<'t> Alternative<'t> {
     // Takes a word, with the operator that npm joins with it.
     fn join(&mut self, operator: Option<Operator<'t>>, text: &'t str) {
         match operator {
-            Some(operator) if operator.is_bare => self.take(text, word_of(operator.sign, text)),
+            Some(operator) if operator.is_bare => {
+                self.take(text, word_of(operator.sign, text, self.mode));
+            }
             Some(operator) => self.take(operator.word, Word::Ignored),
-            None => self.take(text, word_of("", text)),
+            None => self.take(text, word_of("", text, self.mode)),
         }
     }
 }
 
 // The versions at both ends of a text with a hyphen between them, if it has such.
-fn ends_of(text: &str) -> Option<(Word, Word)> {
+fn ends_of(text: &str, mode: Mode) -> Option<(Word, Word)> {
     let (from, rest) = text.split_once(is_space)?;
     let (hyphen, to) = rest.trim_start_matches(is_space).split_once(is_space)?;
     if hyphen != "-" {
@@ -789,7 +861,11 @@ fn ends_of(text: &str) -> Option<(Word, Word)> {
     }
     // A version with whitespace in it is none.
     let to = to.trim_start_matches(is_space);
-    let (from, to) = (version(from, Form::Partial), version(to, Form::Partial));
+    let from = version(from, Form::Partial, mode);
+    // npm writes a second version with a pre-release anew, without its signs.
+    let has_pre = to.split('+').next().unwrap_or("").contains('-');
+    let form = if has_pre { Form::Tilde } else { Form::Partial };
+    let to = version(to, form, mode);
     if from == Word::Ignored || to == Word::Ignored {
         None
     } else {
@@ -797,15 +873,16 @@ fn ends_of(text: &str) -> Option<(Word, Word)> {
     }
 }
 
-fn alternative_of(text: &str) -> Alternative<'_> {
+fn alternative_of(text: &str, mode: Mode) -> Alternative<'_> {
     let text = text.trim_matches(is_space);
     let mut all = Alternative {
+        mode,
         is_kept: text.is_empty(),
         is_too_large: false,
         ignored: None,
         last: None,
     };
-    if let Some((from, to)) = ends_of(text) {
+    if let Some((from, to)) = ends_of(text, mode) {
         all.is_too_large = from == Word::TooLarge || to == Word::TooLarge;
         all.is_kept = !all.is_too_large;
         return all;
@@ -843,7 +920,7 @@ pub fn read_range(text: &str) -> Read<'_> {
     };
     let mut is_too_large = false;
     for part in text.split("||") {
-        let alternative = alternative_of(part);
+        let alternative = alternative_of(part, Mode::Loose);
         is_too_large |= alternative.is_too_large;
         if alternative.is_kept {
             read.reading = Reading::Range;
@@ -864,29 +941,96 @@ pub fn read_range(text: &str) -> Read<'_> {
     read
 }
 
-/// The range without the words that npm ignores, and without the alternatives that it leaves out; none if an operator ends a word there.
-pub fn without_ignored(alloc: Global, text: &str) -> Result<Option<String>, AllocError> {
-    let mut kept = String::new(alloc);
-    let mut is_first = true;
+/// What npm refuses in a range of `engines` or of a key in `overrides`, which it reads strictly; none if it takes the range.
+pub fn refused_part(text: &str) -> Option<&str> {
     for part in text.split("||") {
-        if !alternative_of(part).is_kept {
-            continue;
+        let alternative = alternative_of(part, Mode::Strict);
+        if alternative.is_too_large {
+            return Some(part.trim_matches(is_space));
         }
-        if !is_first {
-            kept.push_str("||")?;
-        }
-        is_first = false;
-        for word in part.split(is_space) {
-            if !split_operator(word).1.is_empty() {
-                return Ok(None);
-            }
-            if word_of("", word) != Word::Ignored {
-                kept.push_str(word)?;
-                kept.push(' ')?;
-            }
+        if alternative.ignored.is_some() {
+            return alternative.ignored;
         }
     }
-    Ok(Some(kept))
+    None
+}
+
+// The operator of a comparator that npm reads, and its numbers up to a wildcard, as npm drops what follows.
+fn parts_of(word: &str) -> (&'static str, &str) {
+    let numbers = word.trim_start_matches(is_sign);
+    let operator = match word.strip_suffix(numbers).unwrap_or("") {
+        signs if signs.starts_with("<=") => "<=",
+        signs if signs.starts_with(">=") => ">=",
+        signs if signs.starts_with('<') => "<",
+        signs if signs.starts_with('>') => ">",
+        signs if signs.starts_with('^') => "^",
+        signs if signs.starts_with('~') => "~",
+        _ => "",
+    };
+    let mut end = 0usize;
+    for (place, part) in numbers.split('.').enumerate() {
+        end = end.saturating_add(1);
+        let has_pre = place == 2 && part.starts_with(['x', 'X', '*'].as_slice());
+        if has_pre || is_wildcard(part) {
+            return (operator, numbers.get(..end).unwrap_or(numbers));
+        }
+        if !is_number(part) {
+            break;
+        }
+        end = end.saturating_add(part.len());
+    }
+    (operator, numbers)
+}
+
+/// The range that npm reads in a text, written so that Deno reads the same: without the words that npm ignores, the alternatives that it
+/// leaves out, and what it drops behind a wildcard. None if npm reads no range, or ignores a word beside an operator that stands alone, or
+/// if Deno can't read all of it, such as `1.0.0beta`.
+pub fn as_read(alloc: Global, text: &str) -> Result<Option<String>, AllocError> {
+    if read_range(text).reading != Reading::Range {
+        return Ok(None);
+    }
+    let mut kept = String::new(alloc);
+    let mut separator = "";
+    for part in text.split("||") {
+        let alternative = alternative_of(part, Mode::Loose);
+        if !alternative.is_kept {
+            continue;
+        }
+        kept.push_str(separator)?;
+        separator = "|| ";
+        let has_operator = part
+            .split(is_space)
+            .any(|word| !split_operator(word).1.is_empty());
+        if has_operator && alternative.ignored.is_some() {
+            return Ok(None);
+        }
+        let has_ends = ends_of(part.trim_matches(is_space), Mode::Loose).is_some();
+        let mut joined = String::new(alloc);
+        for word in part.split(is_space) {
+            joined.push_str(word)?;
+            if word.is_empty() || !split_operator(word).1.is_empty() {
+                continue;
+            }
+            if has_ends && word == "-" {
+                kept.push_str("- ")?;
+            } else if word_of("", joined.as_str(), Mode::Loose) != Word::Ignored {
+                let (operator, numbers) = parts_of(joined.as_str());
+                kept.push_str(operator)?;
+                kept.push_str(numbers)?;
+                kept.push(' ')?;
+            }
+            joined.clear();
+        }
+    }
+    // Deno doesn't read an empty alternative there.
+    if kept.as_str().ends_with("|| ") {
+        kept.push('*')?;
+    }
+    if invalid_pieces_behind(alloc, 0, kept.as_str(), Flavour::Npm)?.is_empty() {
+        Ok(Some(kept))
+    } else {
+        Ok(None)
+    }
 }
 
 // The number that a text is.
@@ -1001,5 +1145,5 @@ pub fn is_reference(text: &str) -> bool {
 
 /// Whether npm takes a text as a version.
 pub fn is_version(text: &str) -> bool {
-    version(text.trim_matches(is_space), Form::Whole) == Word::Comparator
+    version(text.trim_matches(is_space), Form::Whole, Mode::Loose) == Word::Comparator
 }
