@@ -4,10 +4,10 @@ use Rattle.std.proofs.lemmas.Result.{err_from_is_err_and}
 use Rattle.std.specs.declared.alloc.AllocError.{AllocError}
 use Rattle.semver_req.specs.Viable.{IsErrorPlace, IsVersionText}
 use Rattle.answers.specs.AskingLaws.{answered, by_fault, by_value, fault_as_fault, fault_no_value, out_of_memory, same_fault, same_value, value_no_fault}
-use Rattle.answers.specs.Asking.{Fault, Given, Is, IsAnswer, IsOutcomeOf, OutOfMemory, fault_of, invalid, valid}
+use Rattle.answers.specs.Asking.{Fault, Given, Is, IsAnswer, IsOutcomeOf, OutOfMemory, fault_of, invalid, outcome_of, valid}
 use Rattle.answers.specs.declared.asking.Problem.{Problem as Unanswered}
 use Rattle.answers.specs.declared.asking.Problem.TheVariants as unanswered
-use Rattle.semver_c.specs.Arguments.{CallFault, Called, IsArgument, IsCallAnswer, IsOnly, IsUtf8Text, NotUtf8, call_fault, called, called_outcome, memory, no_text, call_outcome, text}
+use Rattle.semver_c.specs.Arguments.{CallFault, Called, IsArgument, IsCallAnswer, IsOnly, IsUtf8Text, NotUtf8, asked_result, call_fault, called, called_outcome, memory, no_text, call_outcome, text}
 use Rattle.semver_c.specs.declared.arguments.Problem.{Problem}
 use Rattle.semver_c.specs.declared.arguments.Problem.TheVariants as problem
 
@@ -129,3 +129,19 @@ one_place bytes (Err e) h n k = tt
 pub answered_for : {T E F : Type 0} (t : T) (value : E → T) (found : Result E F) → IfOk found (λ v. value v ≡ t) → IfOk found (λ v. IsOutcomeOf OutOfMemory (Is t) (Ok (value v)))
 answered_for t value (Ok v) h = answered OutOfMemory (value v) t h
 answered_for t value (Err e) h = tt
+
+-- ---- a question about an argument
+
+same_outcome : {E Y : Type 0} (value : E → Y) (found : Result E Unanswered) → call_outcome value (asked_result found) ≡ called_outcome (outcome_of value found)
+same_outcome value (Ok e) = refl
+same_outcome value (Err why) = refl
+
+module _ {A T E Y : Type 0} (Argument : Result A CallFault → Type 0) (Asked : A → Result Y Fault → Type 0) (given : T → A) (value : E → Y) (Post : T → Result E Unanswered → Type 0) where
+  -- the answer to a question that is asked of an argument, if it is valid
+  pub asked_of : (argument : Result T Problem) (r : Result E Problem) → IsArgument Argument given argument
+      → MatchResult argument (λ t. (found : Result E Unanswered) × Post t found × (r ≡ asked_result found)) (λ p. r ≡ Err p)
+      → ((t : T) (found : Result E Unanswered) → Post t found → IsAnswer (Asked (given t)) value found) → IsCallAnswer (Given Argument (λ a. Called (Asked a))) value r
+  asked_of (Ok t) r h made answers =
+      within Argument (λ a. Called (Asked a)) value r (given t) h
+      (by_answer (Asked (given t)) value r (outcome_of value made.0) (answers t made.0 made.1) (ap (call_outcome value) made.2 ∙ same_outcome value made.0))
+  asked_of (Err p) r h made answers = without Argument (λ a. Called (Asked a)) value r p h (subst (λ (s : Result E Problem). IsErrAnd s (λ e. e ≡ p)) (sym made) refl)

@@ -14,6 +14,7 @@ use Rattle.node_semver.specs.declared.increment.Base.TheVariants as base
 use Rattle.node_semver.specs.declared.release_type.ReleaseType.{ReleaseType}
 use Rattle.node_semver.specs.declared.release_type.ReleaseType.TheVariants as type
 use Rattle.answers.specs.Asking.{Fault, Invalid, IsOutcomeOf, OutOfMemory, fault_message, fault_of}
+use Rattle.answers.specs.declared.asking.Problem.{Problem as Unanswered_}
 use Rattle.semver_c.specs.declared.arguments.Problem.{Problem}
 use Rattle.semver_c.specs.declared.arguments.Problem.TheVariants as problem
 use Rattle.semver_c.specs.declared.arguments.Subject.{Subject}
@@ -38,6 +39,11 @@ call_fault (problem.Unanswered why) = Unanswered (fault_of why)
 call_fault problem.NoGrammar = NoGrammar
 call_fault problem.NotUtf8 = NotUtf8
 call_fault problem.NoValue = NoValue
+
+-- the result of a question about texts as that of a call
+abbrev pub asked_result : {E : Type 0} → Result E Unanswered_ → Result E Problem
+asked_result (Ok e) = Ok e
+asked_result (Err why) = Err (problem.Unanswered why)
 
 -- the outcome of a result whose value means this
 abbrev pub call_outcome : {E X : Type 0} → (E → X) → Result E Problem → Result X CallFault

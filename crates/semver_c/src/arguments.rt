@@ -1,9 +1,10 @@
 //! The arguments of a call: grammars by their numbers, texts by their bytes, and why a call has no result.
 
-ghost use Rattle.std.specs.Prelude.{◌≡◌, IfOk, map};
+ghost use Rattle.std.specs.Prelude.{◌≡◌, Err, IfOk, MatchResult, Result, map};
 ghost use Rattle.std.specs.Str.Lines.{lines};
+ghost use Rattle.answers.specs.declared.asking.Problem.{Problem as Unanswered};
 ghost use Rattle.answers.specs.declared.asking.Problem.TheVariants as unanswered;
-ghost use Rattle.semver_c.specs.Arguments.{IsArgument, IsNumbered, IsUtf8Text, bases, call_fault, call_message, directions, fault_place, grammars, parts_by, pre_release_by, release_types, subjects};
+ghost use Rattle.semver_c.specs.Arguments.{IsArgument, asked_result, IsNumbered, IsUtf8Text, bases, call_fault, call_message, directions, fault_place, grammars, parts_by, pre_release_by, release_types, subjects};
 ghost use Rattle.semver_c.specs.Given.{IsWithText, IsWithTexts, text_given, texts_given};
 ghost use Rattle.semver_c.specs.Codes.{fault_code};
 ghost use Rattle.semver_c.specs.declared.arguments.Problem.TheVariants as problem;
@@ -172,7 +173,7 @@ pub fn parts(number: u32) -> Parts
 }
 
 /// The text of the bytes.
-pub fn text(bytes: &[u8]) -> Result<&str, Problem>
+pub fn text_of(bytes: &[u8]) -> Result<&str, Problem>
     ensures { IsArgument (IsUtf8Text bytes.now) (λ text. text.now) result }
 {
     match str::from_utf8(bytes) {
@@ -193,7 +194,7 @@ pub fn with_text<'a>(grammar: u32, bytes: &'a [u8]) -> Result<WithText<'a>, Prob
     ensures { IsArgument (IsWithText grammar bytes.now) text_given result }
 {
     let flavour = flavour(grammar)?;
-    let text = text(bytes)?;
+    let text = text_of(bytes)?;
     Ok(WithText { flavour, text })
 }
 
@@ -214,13 +215,25 @@ pub fn with_texts<'a>(
     ensures { IsArgument (IsWithTexts grammar one.now other.now) texts_given result }
 {
     let flavour = flavour(grammar)?;
-    let one = text(one)?;
-    let other = text(other)?;
+    let one = text_of(one)?;
+    let other = text_of(other)?;
     Ok(WithTexts {
         flavour,
         one,
         other,
     })
+}
+
+/// Asks a question about an argument, unless it is invalid.
+pub fn ask<A, T, F: FnOnce(A) -> Result<T, Unanswered>>(
+    argument: Result<A, Problem>,
+    question: F,
+) -> Result<T, Problem>
+    requires { F.IsAlwaysCallable question }
+    ensures { MatchResult argument (λ a. (found : Result T Unanswered) × F.post question a found
+        × (result ≡ asked_result found)) (λ p. result ≡ Err p) }
+{
+    Ok(question(argument?)?)
 }
 
 /// The lines of a text.

@@ -39,23 +39,29 @@ mod handles;
 mod questions;
 mod reports;
 
-use answers::questions::End;
-use arguments::{Problem, pre_release};
+use answers::explained_json::explain_as_json;
+use answers::parts::{range_parts, version_parts};
+use answers::questions::{
+    End, canonical, displayed, equivalent, lies_outside, matches, overlaps, sort_key,
+    version_outside,
+};
+use arguments::{Problem, ask, pre_release, text_of, with_text, with_texts};
 use codes::Code;
 use deno_semver::PreRelease;
 use deno_semver::npm::is_valid_npm_tag;
 use deno_semver::package::cmp_version_reqs;
 use handles::{Held, RequirementHandle, ScansHandle, VersionHandle, VersionListHandle};
 use node_semver::outside::Side;
+use package_answers::names::name_with_version_parts;
+use package_answers::packages::package_parts;
+use package_answers::references::reference_parts;
+use package_answers::specifiers::{dependency_parts, version_reference_parts};
 use questions::{
-    best_held, best_line, canonical_form, canonical_held, coerced_of, common, common_of_all,
-    dependency_of, difference_of, displayed_held, displayed_version, equivalent_ranges, errors_of,
-    explanation_of, export_name_of, filter, filter_held, fits, increment_of, is_tag, key_held,
-    key_of, lies, lowest, match_code, matches_held, name_with_version_of, names_tag, numbers_of,
-    order_of, outside, overlap, package_errors_of, package_of, ranges_of, read_list,
-    read_package_of, read_range, read_version, reference_errors_of, reference_of, simplified_of,
-    sorted_held, sorted_lines, version_error_of, version_parts_of, version_reference_of,
-    why_invalid,
+    best_held, best_line, canonical_held, coerced_of, common, common_of_all, difference_of,
+    displayed_held, errors_of, export_name_of, filter, filter_held, increment_of, is_tag, key_held,
+    lowest, match_code, matches_held, names_tag, numbers_of, order_of, package_errors_of,
+    read_list, read_package_of, read_range, read_version, reference_errors_of, simplified_of,
+    sorted_held, sorted_lines, version_error_of, why_invalid,
 };
 use reports::{
     put, put_items, put_place, report_best, report_filter, report_held, report_lowest,
@@ -81,11 +87,17 @@ pub extern "C" fn semver_fits(
     ensures { IsReply (Fits pre_releases grammar range.now version.now)
         match_code (or_message no_text) out.old out.new needed.new result }
 {
-    report_match(
-        fits(alloc, grammar, range, version, pre_releases),
-        out,
-        needed,
-    )
+    let answer = ask(
+        with_texts(grammar, range, version),
+        |given| matches(
+            alloc,
+            given.flavour,
+            pre_release(pre_releases),
+            given.one,
+            given.other,
+        ),
+    );
+    report_match(answer, out, needed)
 }
 
 /// Whether the version is above each version that the range matches: yes, no, or that the range is a tag. Pre-releases match as in
@@ -103,7 +115,17 @@ pub extern "C" fn semver_above(
     ensures { IsReply (Lies side.Above pre_releases grammar range.now version.now)
         match_code (or_message no_text) out.old out.new needed.new result }
 {
-    let answer = lies(alloc, Side::Above, grammar, range, version, pre_releases);
+    let answer = ask(
+        with_texts(grammar, range, version),
+        |given| lies_outside(
+            alloc,
+            Side::Above,
+            given.flavour,
+            pre_release(pre_releases),
+            given.one,
+            given.other,
+        ),
+    );
     report_match(answer, out, needed)
 }
 
@@ -122,7 +144,17 @@ pub extern "C" fn semver_below(
     ensures { IsReply (Lies side.Below pre_releases grammar range.now version.now)
         match_code (or_message no_text) out.old out.new needed.new result }
 {
-    let answer = lies(alloc, Side::Below, grammar, range, version, pre_releases);
+    let answer = ask(
+        with_texts(grammar, range, version),
+        |given| lies_outside(
+            alloc,
+            Side::Below,
+            given.flavour,
+            pre_release(pre_releases),
+            given.one,
+            given.other,
+        ),
+    );
     report_match(answer, out, needed)
 }
 
@@ -214,7 +246,10 @@ pub extern "C" fn semver_intersects(
     ensures place { IsPlaceReply (ByTwo grammar one.now other.now Overlaps) no_place
         place.old place.new result }
 {
-    let answer = overlap(alloc, grammar, one, other);
+    let answer = ask(
+        with_texts(grammar, one, other),
+        |given| overlaps(alloc, given.flavour, given.one, given.other),
+    );
     put_place(&answer, place);
     let code = match answer {
         Ok(overlap) => Code::of_bool(overlap),
@@ -242,7 +277,16 @@ pub extern "C" fn semver_within(
     ensures place { IsPlaceReply (OutsideBy pre_releases grammar one.now other.now) no_place
         place.old place.new result }
 {
-    let answer = outside(alloc, grammar, one, other, pre_releases);
+    let answer = ask(
+        with_texts(grammar, one, other),
+        |given| version_outside(
+            alloc,
+            given.flavour,
+            pre_release(pre_releases),
+            given.one,
+            given.other,
+        ),
+    );
     put_place(&answer, place);
     report_lowest(alloc, answer, Code::No, Code::Yes, out, needed)
 }
@@ -261,7 +305,16 @@ pub extern "C" fn semver_equivalent(
     ensures place { IsPlaceReply (EquivalentBy pre_releases grammar one.now other.now) no_place
         place.old place.new result }
 {
-    let answer = equivalent_ranges(alloc, grammar, one, other, pre_releases);
+    let answer = ask(
+        with_texts(grammar, one, other),
+        |given| equivalent(
+            alloc,
+            given.flavour,
+            pre_release(pre_releases),
+            given.one,
+            given.other,
+        ),
+    );
     put_place(&answer, place);
     let code = match answer {
         Ok(answer) => Code::of_match(&answer),
@@ -346,7 +399,11 @@ pub extern "C" fn semver_normal(
     ensures { IsReply (ByOne grammar range.now Canonical) always_yes (or_message (λ text. text))
         out.old out.new needed.new result }
 {
-    report_text(canonical_form(alloc, grammar, range), out, needed)
+    let answer = ask(
+        with_text(grammar, range),
+        |given| canonical(alloc, given.flavour, given.text),
+    );
+    report_text(answer, out, needed)
 }
 
 /// Whether the range is a tag: yes or no.
@@ -381,7 +438,8 @@ pub extern "C" fn semver_version(
     ensures { IsReply (OfText version.now Displayed) always_yes (or_message (λ text. text))
         out.old out.new needed.new result }
 {
-    report_text(displayed_version(alloc, version), out, needed)
+    let answer = ask(text_of(version), |text| displayed(alloc, text));
+    report_text(answer, out, needed)
 }
 
 /// The sort key of the version, whose bytes compare as precedence does: yes.
@@ -395,7 +453,8 @@ pub extern "C" fn semver_key(
     ensures { IsReply (OfText version.now SortKeyOf) always_yes (or_message (λ text. text))
         out.old out.new needed.new result }
 {
-    report_text(key_of(alloc, version), out, needed)
+    let answer = ask(text_of(version), |text| sort_key(alloc, text));
+    report_text(answer, out, needed)
 }
 
 /// Whether the text may be the tag of a version: yes or no.
@@ -531,7 +590,11 @@ pub extern "C" fn semver_package(
     ensures { IsReply (ByOne grammar text.now PackageParts) always_yes (or_message (λ text. text))
         out.old out.new needed.new result }
 {
-    report_text(package_of(alloc, grammar, text), out, needed)
+    let answer = ask(
+        with_text(grammar, text),
+        |given| package_parts(alloc, given.flavour, given.text),
+    );
+    report_text(answer, out, needed)
 }
 
 /// Why the text of a package, at 0, or of a reference, at 1, is invalid, as JSON: yes; no, if it is valid. The grammar is that of a
@@ -572,7 +635,8 @@ pub extern "C" fn semver_reference(
     ensures { IsReply (OfText text.now ReferenceParts) always_yes (or_message (λ text. text))
         out.old out.new needed.new result }
 {
-    report_text(reference_of(alloc, text), out, needed)
+    let answer = ask(text_of(text), |text| reference_parts(alloc, text));
+    report_text(answer, out, needed)
 }
 
 /// The errors of a package, as JSON: yes. There are none if it is valid and its range has none.
@@ -615,7 +679,8 @@ pub extern "C" fn semver_version_parts(
     ensures { IsReply (OfText version.now VersionParts) always_yes (or_message (λ text. text))
         out.old out.new needed.new result }
 {
-    report_text(version_parts_of(alloc, version), out, needed)
+    let answer = ask(text_of(version), |text| version_parts(alloc, text));
+    report_text(answer, out, needed)
 }
 
 /// The three numbers of a version: yes, if it has neither a pre-release nor a build, or no, if it has one. Then `needed` is 3; if there
@@ -655,7 +720,11 @@ pub extern "C" fn semver_ranges(
     ensures { IsReply (ByOne grammar range.now RangeParts) text_code (or_message text_of)
         out.old out.new needed.new result }
 {
-    report_text_or_tag(ranges_of(alloc, grammar, range), out, needed)
+    let answer = ask(
+        with_text(grammar, range),
+        |given| range_parts(alloc, given.flavour, given.text),
+    );
+    report_text_or_tag(answer, out, needed)
 }
 
 /// What the range means, as JSON: yes, with its alternatives and its canonical form; or that it is a tag.
@@ -671,7 +740,10 @@ pub extern "C" fn semver_explain(
     ensures { IsReply (ExplainsBy pre_releases grammar range.now) text_code (or_message text_of)
         out.old out.new needed.new result }
 {
-    let answer = explanation_of(alloc, grammar, range, pre_releases);
+    let answer = ask(
+        with_text(grammar, range),
+        |given| explain_as_json(alloc, given.flavour, pre_release(pre_releases), given.text),
+    );
     report_text_or_tag(answer, out, needed)
 }
 
@@ -721,7 +793,8 @@ pub extern "C" fn semver_name_with_version(
     ensures { IsReply (OfText text.now NameWithVersionParts) always_yes (or_message (λ text. text))
         out.old out.new needed.new result }
 {
-    report_text(name_with_version_of(alloc, text), out, needed)
+    let answer = ask(text_of(text), |text| name_with_version_parts(alloc, text));
+    report_text(answer, out, needed)
 }
 
 /// The parts of a reference to one version of a JSR or npm package, as JSON: yes.
@@ -735,7 +808,8 @@ pub extern "C" fn semver_version_reference(
     ensures { IsReply (OfText text.now VersionReferenceParts) always_yes (or_message (λ text. text))
         out.old out.new needed.new result }
 {
-    report_text(version_reference_of(alloc, text), out, needed)
+    let answer = ask(text_of(text), |text| version_reference_parts(alloc, text));
+    report_text(answer, out, needed)
 }
 
 /// The parts of a dependency, as JSON: yes. The grammar is that of its range.
@@ -750,7 +824,11 @@ pub extern "C" fn semver_dependency(
     ensures { IsReply (ByOne grammar text.now DependencyParts) always_yes
         (or_message (λ text. text)) out.old out.new needed.new result }
 {
-    report_text(dependency_of(alloc, grammar, text), out, needed)
+    let answer = ask(
+        with_text(grammar, text),
+        |given| dependency_parts(alloc, given.flavour, given.text),
+    );
+    report_text(answer, out, needed)
 }
 
 /// The name of the export that the path of a module in a JSR package means: yes.

@@ -1,4 +1,4 @@
-//! The question of each call: its grammar is looked up, its texts are checked, and the question about texts is asked.
+//! Questions that take several steps, and questions about the values that handles hold.
 
 ghost use Rattle.std.specs.Prelude.{◌≡◌, IfOk, is_some, string_bytes};
 ghost use Rattle.std.specs.Cow.{cow_str_bytes};
@@ -7,35 +7,26 @@ ghost use Rattle.semver_base.specs.SortKey.{sort_key};
 ghost use Rattle.semver_base.specs.VersionText.{version_text};
 ghost use Rattle.semver_req.specs.Requirement.{inner_text, tag_of};
 ghost use Rattle.answers.specs.Filtering.{list_answer, list_matches};
-ghost use Rattle.answers.specs.Questions.{Canonical, Displayed, Orders, Overlaps, SortKeyOf, match_of};
+ghost use Rattle.answers.specs.Questions.{Orders, match_of};
 ghost use Rattle.answers.specs.Sorting.{SortedLines};
+ghost use Rattle.package_answers.specs.Packages.{IsPackage};
 ghost use Rattle.answers.specs.Steps.{Differs};
 ghost use Rattle.answers.specs.declared.sorting.Order.TheVariants.{Ascending};
-ghost use Rattle.package_answers.specs.Packages.{IsPackage, PackageParts};
-ghost use Rattle.answers.specs.Parts.{RangeParts, VersionParts};
-ghost use Rattle.package_answers.specs.Names.{NameWithVersionParts};
-ghost use Rattle.package_answers.specs.Specifiers.{DependencyParts, VersionReferenceParts};
 ghost use Rattle.answers.specs.Reading.{IsVersionAt};
-ghost use Rattle.package_answers.specs.References.{ReferenceParts};
 ghost use Rattle.semver_c.specs.Arguments.{IsCallAnswer, IsCallOutcome, pre_release_by};
 ghost use Rattle.semver_c.specs.Codes.{match_code};
 ghost use Rattle.semver_c.specs.Held.{IsHeldBest, OfHeld, of_both, of_one};
-ghost use Rattle.semver_c.specs.Questions.{BestLine, ByOne, ByTwo, CoercesTo, CommonBy, CommonOfAll, EquivalentBy, ErrorsBy, ExplainsBy, ExportNameOf, Filters, Fits, IncrementBy, Lies, LowestBy, MatchesHeld, NumbersOf, OfText, OfTexts, OutsideBy, PackageErrorsBy, RangeBy, ReferenceErrorsOf, SimplifiesBy, SortsOf, TagBy, VersionErrorOf, VersionListOf, WhyBy};
+ghost use Rattle.semver_c.specs.Questions.{BestLine, ByOne, CoercesTo, CommonBy, CommonOfAll, ErrorsBy, ExportNameOf, Filters, IncrementBy, LowestBy, MatchesHeld, NumbersOf, OfText, OfTexts, PackageErrorsBy, RangeBy, ReferenceErrorsOf, SimplifiesBy, SortsOf, TagBy, VersionErrorOf, VersionListOf, WhyBy};
 
 use crate::arguments::{
     Problem, Subject, base_of, direction_of, line_list, parts, pre_release, release_type_of,
-    subject_of, text, with_text, with_texts,
+    subject_of, text_of, with_text, with_texts,
 };
 use crate::codes::Code;
 use answers::asking::Answer;
 use answers::errors::{errors_of_range, version_error};
-use answers::explained_json::explain_as_json;
 use answers::filtering::{self, list_best, list_matches, version_lines};
-use answers::parts::{range_parts, version_parts};
-use answers::questions::{
-    Best, End, best_match, canonical, common_version, displayed, equivalent, lies_outside, matches,
-    order, overlaps, sort_key, text_of_version, version_outside,
-};
+use answers::questions::{Best, End, best_match, common_version, order, text_of_version};
 use answers::reading::{range, version};
 use answers::simplifying::simplified;
 use answers::sorting::{self, Order, sort};
@@ -44,32 +35,13 @@ use deno_semver::jsr::normalized_export_name;
 use deno_semver::package::PackageReq;
 use deno_semver::{PreRelease, Version, VersionReq};
 use node_semver::coerce::coerce;
-use node_semver::outside::Side;
 use node_semver::release_type::ReleaseType;
 use package_answers::faults::{package_fault, reference_fault};
-use package_answers::names::name_with_version_parts;
-use package_answers::packages::{package_errors_text, package_parts, read_package};
-use package_answers::references::{reference_errors_text, reference_parts};
-use package_answers::specifiers::{dependency_parts, version_reference_parts};
+use package_answers::packages::{package_errors_text, read_package};
+use package_answers::references::reference_errors_text;
 use std::alloc::Global;
 use std::borrow::CowStr;
 use std::cmp::Ordering;
-
-/// What does the range mean?
-pub fn explanation_of(
-    alloc: Global,
-    grammar: u32,
-    range: &[u8],
-    pre_releases: u32,
-) -> Result<Answer<String>, Problem>
-    ensures { IsCallAnswer (ExplainsBy pre_releases grammar range.now)
-        (λ answer. list_answer string_bytes answer) result }
-{
-    let given = with_text(grammar, range)?;
-    explain_as_json(alloc, given.flavour, pre_release(pre_releases), given.text).map_err(
-        Problem::from,
-    )
-}
 
 /// What is wrong with the range, and where?
 pub fn errors_of(alloc: Global, grammar: u32, range: &[u8]) -> Result<String, Problem>
@@ -92,7 +64,7 @@ pub fn package_errors_of(alloc: Global, grammar: u32, bytes: &[u8]) -> Result<St
 pub fn reference_errors_of(alloc: Global, reference: &[u8]) -> Result<String, Problem>
     ensures { IsCallAnswer (ReferenceErrorsOf reference.now) string_bytes result }
 {
-    let text = text(reference)?;
+    let text = text_of(reference)?;
     reference_errors_text(alloc, text).map_err(Problem::from)
 }
 
@@ -100,49 +72,8 @@ pub fn reference_errors_of(alloc: Global, reference: &[u8]) -> Result<String, Pr
 pub fn version_error_of(alloc: Global, version: &[u8]) -> Result<usize, Problem>
     ensures { IsCallAnswer (VersionErrorOf version.now) (λ place. place) result }
 {
-    let text = text(version)?;
+    let text = text_of(version)?;
     version_error(alloc, text).map_err(Problem::from)
-}
-
-/// Does the version match the range?
-pub fn fits(
-    alloc: Global,
-    grammar: u32,
-    range: &[u8],
-    version: &[u8],
-    pre_releases: u32,
-) -> Result<Answer<bool>, Problem>
-    ensures { IsCallAnswer (Fits pre_releases grammar range.now version.now)
-        (λ answer. answer) result }
-{
-    let given = with_texts(grammar, range, version)?;
-    let pre_release = pre_release(pre_releases);
-    matches(alloc, given.flavour, pre_release, given.one, given.other).map_err(Problem::from)
-}
-
-/// Does the version lie on this side of each version that the range matches?
-pub fn lies(
-    alloc: Global,
-    side: Side,
-    grammar: u32,
-    range: &[u8],
-    version: &[u8],
-    pre_releases: u32,
-) -> Result<Answer<bool>, Problem>
-    ensures { IsCallAnswer (Lies side pre_releases grammar range.now version.now)
-        (λ answer. answer) result }
-{
-    let given = with_texts(grammar, range, version)?;
-    let pre_release = pre_release(pre_releases);
-    lies_outside(
-        alloc,
-        side,
-        given.flavour,
-        pre_release,
-        given.one,
-        given.other,
-    )
-    .map_err(Problem::from)
 }
 
 /// Which of the versions, one per line, match the range?
@@ -223,7 +154,7 @@ pub fn simplified_of(
 pub fn sorted_lines(alloc: Global, versions: &[u8]) -> Result<Vec<usize>, Problem>
     ensures { IsCallAnswer (SortsOf versions.now) (λ places. places.items) result }
 {
-    let text = text(versions)?;
+    let text = text_of(versions)?;
     let lines = line_list(alloc, text)?;
     sort(alloc, lines.as_slice(), Order::Ascending).map_err(Problem::from)
 }
@@ -241,8 +172,8 @@ pub fn increment_of(
 {
     let release_type = release_type_of(release_type)?;
     let base = base_of(base)?;
-    let version = text(version)?;
-    let identifiers = text(identifiers)?;
+    let version = text_of(version)?;
+    let identifiers = text_of(identifiers)?;
     incremented(alloc, release_type, version, identifiers, base).map_err(Problem::from)
 }
 
@@ -256,7 +187,7 @@ pub fn coerced_of(
     ensures { IsCallAnswer (CoercesTo direction bytes.now pre_releases) (λ answer. answer) result }
 {
     let direction = direction_of(direction)?;
-    let text = text(bytes)?;
+    let text = text_of(bytes)?;
     match coerce(alloc, text, direction, parts(pre_releases)) {
         Ok(found) => Ok(Answer::Value(found)),
         Err(error) => Err(Problem::from(error)),
@@ -271,8 +202,8 @@ pub fn difference_of(
 ) -> Result<Option<ReleaseType>, Problem>
     ensures { IsCallAnswer (OfTexts one.now other.now Differs) (λ kind. kind) result }
 {
-    let one = text(one)?;
-    let other = text(other)?;
+    let one = text_of(one)?;
+    let other = text_of(other)?;
     difference(alloc, one, other).map_err(Problem::from)
 }
 
@@ -280,33 +211,9 @@ pub fn difference_of(
 pub fn order_of(alloc: Global, one: &[u8], other: &[u8]) -> Result<Ordering, Problem>
     ensures { IsCallAnswer (OfTexts one.now other.now Orders) (λ order. order) result }
 {
-    let one = text(one)?;
-    let other = text(other)?;
+    let one = text_of(one)?;
+    let other = text_of(other)?;
     order(alloc, one, other).map_err(Problem::from)
-}
-
-/// Do the two ranges overlap?
-pub fn overlap(alloc: Global, grammar: u32, one: &[u8], other: &[u8]) -> Result<bool, Problem>
-    ensures { IsCallAnswer (ByTwo grammar one.now other.now Overlaps) (λ answer. answer) result }
-{
-    let given = with_texts(grammar, one, other)?;
-    overlaps(alloc, given.flavour, given.one, given.other).map_err(Problem::from)
-}
-
-/// Do the two ranges match the same versions?
-pub fn equivalent_ranges(
-    alloc: Global,
-    grammar: u32,
-    one: &[u8],
-    other: &[u8],
-    pre_releases: u32,
-) -> Result<Answer<bool>, Problem>
-    ensures { IsCallAnswer (EquivalentBy pre_releases grammar one.now other.now)
-        (λ answer. answer) result }
-{
-    let given = with_texts(grammar, one, other)?;
-    let pre_release = pre_release(pre_releases);
-    equivalent(alloc, given.flavour, pre_release, given.one, given.other).map_err(Problem::from)
 }
 
 /// What is the lowest version that the range matches?
@@ -357,32 +264,6 @@ pub fn common_of_all(
     common_version(alloc, given.flavour, pre_release, lines.as_slice()).map_err(Problem::from)
 }
 
-/// What is the lowest version that the first range matches and the other doesn't?
-pub fn outside(
-    alloc: Global,
-    grammar: u32,
-    one: &[u8],
-    other: &[u8],
-    pre_releases: u32,
-) -> Result<Answer<Option<Version>>, Problem>
-    ensures { IsCallAnswer (OutsideBy pre_releases grammar one.now other.now)
-        (λ answer. answer) result }
-{
-    let given = with_texts(grammar, one, other)?;
-    let pre_release = pre_release(pre_releases);
-    version_outside(alloc, given.flavour, pre_release, given.one, given.other).map_err(
-        Problem::from,
-    )
-}
-
-/// What is the canonical form of the range?
-pub fn canonical_form(alloc: Global, grammar: u32, range: &[u8]) -> Result<String, Problem>
-    ensures { IsCallAnswer (ByOne grammar range.now Canonical) string_bytes result }
-{
-    let given = with_text(grammar, range)?;
-    canonical(alloc, given.flavour, given.text).map_err(Problem::from)
-}
-
 /// Whether the range is a tag.
 pub fn is_tag(range: &VersionReq) -> bool
     ensures { result ≡ is_some (tag_of range.now.inner) }
@@ -397,30 +278,6 @@ pub fn names_tag(alloc: Global, grammar: u32, bytes: &[u8]) -> Result<bool, Prob
     let given = with_text(grammar, bytes)?;
     let range = range(alloc, given.flavour, 0, given.text)?;
     Ok(is_tag(&range))
-}
-
-/// How is the version displayed?
-pub fn displayed_version(alloc: Global, version: &[u8]) -> Result<String, Problem>
-    ensures { IsCallAnswer (OfText version.now Displayed) string_bytes result }
-{
-    let text = text(version)?;
-    displayed(alloc, text).map_err(Problem::from)
-}
-
-/// What is the sort key of the version?
-pub fn key_of(alloc: Global, version: &[u8]) -> Result<String, Problem>
-    ensures { IsCallAnswer (OfText version.now SortKeyOf) string_bytes result }
-{
-    let text = text(version)?;
-    sort_key(alloc, text).map_err(Problem::from)
-}
-
-/// What are the parts of the package?
-pub fn package_of(alloc: Global, grammar: u32, bytes: &[u8]) -> Result<String, Problem>
-    ensures { IsCallAnswer (ByOne grammar bytes.now PackageParts) string_bytes result }
-{
-    let given = with_text(grammar, bytes)?;
-    package_parts(alloc, given.flavour, given.text).map_err(Problem::from)
 }
 
 /// Why is the text of a package or a reference invalid?
@@ -442,60 +299,11 @@ pub fn why_invalid(
     fault.map_err(Problem::from)
 }
 
-/// What are the parts of the reference?
-pub fn reference_of(alloc: Global, bytes: &[u8]) -> Result<String, Problem>
-    ensures { IsCallAnswer (OfText bytes.now ReferenceParts) string_bytes result }
-{
-    let text = text(bytes)?;
-    reference_parts(alloc, text).map_err(Problem::from)
-}
-
-/// What are the parts of the version?
-pub fn version_parts_of(alloc: Global, bytes: &[u8]) -> Result<String, Problem>
-    ensures { IsCallAnswer (OfText bytes.now VersionParts) string_bytes result }
-{
-    let text = text(bytes)?;
-    version_parts(alloc, text).map_err(Problem::from)
-}
-
-/// What are the ranges of the range?
-pub fn ranges_of(alloc: Global, grammar: u32, bytes: &[u8]) -> Result<Answer<String>, Problem>
-    ensures { IsCallAnswer (ByOne grammar bytes.now RangeParts)
-        (λ answer. list_answer string_bytes answer) result }
-{
-    let given = with_text(grammar, bytes)?;
-    range_parts(alloc, given.flavour, given.text).map_err(Problem::from)
-}
-
-/// What are the parts of the name with a version?
-pub fn name_with_version_of(alloc: Global, bytes: &[u8]) -> Result<String, Problem>
-    ensures { IsCallAnswer (OfText bytes.now NameWithVersionParts) string_bytes result }
-{
-    let text = text(bytes)?;
-    name_with_version_parts(alloc, text).map_err(Problem::from)
-}
-
-/// What are the parts of the reference to a version?
-pub fn version_reference_of(alloc: Global, bytes: &[u8]) -> Result<String, Problem>
-    ensures { IsCallAnswer (OfText bytes.now VersionReferenceParts) string_bytes result }
-{
-    let text = text(bytes)?;
-    version_reference_parts(alloc, text).map_err(Problem::from)
-}
-
-/// What are the parts of the dependency?
-pub fn dependency_of(alloc: Global, grammar: u32, bytes: &[u8]) -> Result<String, Problem>
-    ensures { IsCallAnswer (ByOne grammar bytes.now DependencyParts) string_bytes result }
-{
-    let given = with_text(grammar, bytes)?;
-    dependency_parts(alloc, given.flavour, given.text).map_err(Problem::from)
-}
-
 /// What is the name of the export that the path means?
 pub fn export_name_of<'a>(alloc: Global, bytes: &'a [u8]) -> Result<CowStr<'a, Global>, Problem>
     ensures { IsCallAnswer (ExportNameOf bytes.now) (λ name. cow_str_bytes name) result }
 {
-    let text = text(bytes)?;
+    let text = text_of(bytes)?;
     normalized_export_name(alloc, Some(text)).map_err(Problem::from)
 }
 
@@ -539,7 +347,7 @@ pub fn read_version(alloc: Global, bytes: &[u8]) -> Result<ReadVersion, Problem>
     ensures displayed { IfOk result
         (λ read. string_bytes read.displayed ≡ version_text read.version) }
 {
-    let text = text(bytes)?;
+    let text = text_of(bytes)?;
     let version = version(alloc, 0, text)?;
     let displayed = text_of_version(alloc, &version)?;
     Ok(ReadVersion { version, displayed })
@@ -558,7 +366,7 @@ pub struct Numbers {
 pub fn numbers_of(alloc: Global, bytes: &[u8]) -> Result<Numbers, Problem>
     ensures { IsCallAnswer (NumbersOf bytes.now) (λ numbers. numbers) result }
 {
-    let text = text(bytes)?;
+    let text = text_of(bytes)?;
     let version = version(alloc, 0, text)?;
     Ok(Numbers {
         major: version.major,
@@ -572,7 +380,7 @@ pub fn numbers_of(alloc: Global, bytes: &[u8]) -> Result<Numbers, Problem>
 pub fn read_list(alloc: Global, bytes: &[u8]) -> Result<Vec<Option<Version>>, Problem>
     ensures { IsCallAnswer (VersionListOf bytes.now) (λ list. list.items) result }
 {
-    let text = text(bytes)?;
+    let text = text_of(bytes)?;
     let lines = line_list(alloc, text)?;
     version_lines(alloc, lines.as_slice()).map_err(Problem::from)
 }
@@ -689,7 +497,7 @@ pub fn matches_held(
     let Some(range) = range else {
         return Err(Problem::NoValue);
     };
-    let text = text(bytes)?;
+    let text = text_of(bytes)?;
     let version = version(alloc, 0, text)?;
     Ok(match_code(range, &version, pre_release(pre_releases)))
 }

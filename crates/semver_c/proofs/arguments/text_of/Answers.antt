@@ -1,7 +1,7 @@
 use Rattle.std.proofs.Common.{◌≡◌, IsUtf8, Ok, rules, subst, sym}
 use Rattle.semver_c.specs.Arguments.{IsOnly, IsUtf8Text}
 use Rattle.semver_c.proofs.Asking.{text_found, text_missing}
-use Rattle.semver_c.proofs.arguments.text.Goals as goal
+use Rattle.semver_c.proofs.arguments.text_of.Goals as goal
 
 pub returns-in-Ok : goal.returns-in-Ok
 returns-in-Ok c =
