@@ -26,7 +26,7 @@ DESCRIPTION = (
     "grammar, or the strict grammar of package specifiers. A tag, such as `latest`, is a name that a registry gives a version.",
     "By npm's rule a pre-release between the bounds matches only if a bound is itself a pre-release of the same three numbers. With `--pre` every "
     "pre-release between the bounds matches.",
-    "The canonical form of a range writes each alternative in one usual form, such as `^1.2.0` for `>=1.2 <2`.",
+    "The canonical form of a range writes each alternative in one standard way, such as `^1.2.0` for `>=1.2 <2`.",
     "`-` stands for standard input. `check` reads it as a file; a command that takes a list reads every line; any other command reads one line. After "
     "`--` no argument is an option, even if it begins with a hyphen.",
 )

@@ -145,7 +145,7 @@ export class Range {
   constructor(range: string | Range, options?: Options);
   /** The string. */
   get text(): string;
-  /** The canonical form, meant to be stored: each alternative in one usual form. */
+  /** The canonical form, meant to be stored: each alternative in one standard way. */
   get canonical(): string;
   /** The tag, if the string is one. */
   get tag(): string | undefined;
@@ -310,7 +310,7 @@ export function common(ranges: readonly (string | Range)[], options?: Options): 
 /** The lowest version that the range matches; undefined where no version does. */
 export function minVersion(range: string | Range, options?: Options): string | undefined;
 
-/** The canonical form of the range, meant to be stored: each alternative in one usual form. If the range is a tag, the tag. */
+/** The canonical form of the range, meant to be stored: each alternative in one standard way. If the range is a tag, the tag. */
 export function canonical(range: string | Range, options?: GrammarOptions): string;
 
 /** A bound of an alternative. */
