@@ -990,14 +990,16 @@ pub fn as_read(alloc: Global, text: &str) -> Result<Option<String>, AllocError> 
         return Ok(None);
     }
     let mut kept = String::new(alloc);
-    let mut separator = "";
+    let mut is_first = true;
     for part in text.split("||") {
         let alternative = alternative_of(part, Mode::Loose);
         if !alternative.is_kept {
             continue;
         }
-        kept.push_str(separator)?;
-        separator = "|| ";
+        if !is_first {
+            kept.push_str("|| ")?;
+        }
+        is_first = false;
         let has_operator = part
             .split(is_space)
             .any(|word| !split_operator(word).1.is_empty());
