@@ -949,6 +949,16 @@ fn may_be_unread(
     Ok(names_package(name) && !(depth == 1 && is_read))
 }
 
+// The section that decides whether npm reads an entry.
+fn section_of(entry: &Entry) -> &'static str {
+    match entry.kind {
+        Kind::Mistake(_) if entry.object.as_str() == "dependencies" => "dependencies",
+        // An override that is `null` is refused in any case.
+        Kind::Mistake(_) if entry.name.as_str() != "." => "",
+        _ => entry.section,
+    }
+}
+
 // What is said of a refusal of the entry if npm doesn't read it, or not always.
 fn aside_of(
     alloc: Global,
@@ -956,13 +966,7 @@ fn aside_of(
     file: Checked<'_>,
     entry: &Entry,
 ) -> Result<Option<Aside>, Stop> {
-    let name = entry.name.as_str();
-    let section = match entry.kind {
-        Kind::Mistake(_) if entry.object.as_str() == "dependencies" => "dependencies",
-        // An override that is `null` is refused in any case.
-        Kind::Mistake(_) if name != "." => "",
-        _ => entry.section,
-    };
+    let (name, section) = (entry.name.as_str(), section_of(entry));
     let unread = match section {
         "dependencies" | "peerDependencies" if names.optional.contains(name) => {
             Some("npm reads optionalDependencies instead")
