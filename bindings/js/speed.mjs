@@ -155,7 +155,7 @@ const comparing = (values) => (i) => at(values, i).compare(next(values, i));
 function printOwn() {
   each('match a version and a held range', CALLS, (i) => range.matches(at(versions, i)), there((i) => others.range.test(at(versions, i))));
   each(
-    'match two strings, `matches`',
+    'match two strings, always one range',
     CALLS,
     (i) => semver.matches(RANGE, at(versions, i)),
     there((i) => other.satisfies(at(versions, i), RANGE)),
