@@ -68,11 +68,11 @@ HANDLES = {
 # Results: C's, and that of ctypes.
 RESULTS = {"i32": ("int32_t", "c_int32"), "u32": ("uint32_t", "c_uint32"), "": ("void", "None")}
 # Exports of semver.wasm that no JavaScript asks for.
-LEFT_OUT = ("is_tag", "range_order", "ranges", "why")
+LEFT_OUT = ("is_tag", "range_order", "ranges")
 # Calls that no Rust asks for. rustc warns of others that nothing uses.
 NOT_IN_RUST = (
     "api", "common", "compare", "export_name", "fits", "intersects", "package_read", "req_is_tag",
-    "req_normal", "req_text", "version_parts", "version_text", "why",
+    "req_normal", "req_text", "version_parts", "version_text",
 )
 
 

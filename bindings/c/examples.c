@@ -79,30 +79,6 @@ static void held_lists(void) {
     is("a list is freed", !list.at && heap_alive() == 0);
 }
 
-#define NO_AT "{\"kind\":\"MissingAtSymbol\",\"message\":\"Packages in the format <scope>/<name> must start with an '@' symbol.\"," \
-              "\"snippet\":null,\"suggested\":null}"
-#define IN_PATH "{\"kind\":\"InvalidPathWithVersion\",\"message\":\"The version stands in the path; write jsr:@a/b@1/c\"," \
-                "\"snippet\":null,\"suggested\":\"jsr:@a/b@1/c\"}"
-
-static void reasons(void) {
-    int32_t code = semver_why(SEMVER_PACKAGE, SEMVER_NPM, TEXT("@scope/name@^1.2"), out, sizeof out, &needed);
-    is("a valid package has no error", code == SEMVER_NO && needed == 0);
-    code = semver_why(SEMVER_PACKAGE, SEMVER_NPM, TEXT("scope/name@1"), out, sizeof out, &needed);
-    is("an invalid package has the kind of its error", code == SEMVER_YES && wrote(NO_AT));
-    code = semver_why(SEMVER_REFERENCE, SEMVER_STRICT, TEXT("jsr:@a/b/c@1"), out, sizeof out, &needed);
-    is("a version in the path has a suggested text", code == SEMVER_YES && wrote(IN_PATH));
-    code = semver_why(2, SEMVER_NPM, TEXT("a"), out, sizeof out, &needed);
-    is("a text is a package or a reference", code == SEMVER_NO_GRAMMAR);
-    code = semver_why(SEMVER_REFERENCE, 3, TEXT("a"), out, sizeof out, &needed);
-    is("a reference has the number of a grammar, too", code == SEMVER_NO_GRAMMAR);
-    long allocations = 0;
-    do {
-        heap_limit(allocations++);
-        code = semver_why(SEMVER_REFERENCE, SEMVER_STRICT, TEXT("jsr:@a/b/c@1"), out, sizeof out, &needed);
-    } while (heap_limit(-1) > 0 && code == SEMVER_NO_MEMORY);
-    is("no other answer when out of memory", code == SEMVER_YES && allocations > 1 && wrote(IN_PATH) && heap_alive() == 0);
-}
-
 static void apis(void) {
     is("the library has the API of the header", semver_api() == SEMVER_API);
 }
@@ -130,7 +106,6 @@ int main(void) {
     lists();
     handles();
     held_lists();
-    reasons();
     apis();
     return failed;
 }

@@ -359,12 +359,6 @@ static void scans(const text *t) {
     semver_req_free(&r);
 }
 
-/* The first text says what the other is: a package or a reference. */
-static void why(const text *t) {
-    uint32_t what = is(t[0], "package") ? SEMVER_PACKAGE : SEMVER_REFERENCE;
-    check_text(semver_why(what, grammar, BYTES(t[1]), OUT));
-}
-
 /* If there is room for two numbers alone, none is written. */
 static void version_numbers(const text *t) {
     uint64_t numbers[NUMBERS], few[] = {99, 99};
@@ -464,7 +458,6 @@ static const struct call {
     {"reference", 0, .text = semver_reference},
     {"package_errors", 1, .req = semver_package_errors},
     {"reference_errors", 0, .text = semver_reference_errors},
-    {"why", 1, .ask = why},
     {"version_parts", 0, .text = semver_version_parts},
     {"ranges", 1, .req = semver_ranges},
     {"explain", 2, .ask = explain},

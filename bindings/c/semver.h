@@ -40,9 +40,6 @@ enum {
     SEMVER_STRICT = 2      /* the grammar of package specifiers: ~, ^ or nothing before one partial version */
 };
 
-/* what semver_why asks about */
-enum { SEMVER_PACKAGE = 0, SEMVER_REFERENCE = 1 };
-
 /* RESTRICTED: a pre-release matches only if a bound is a pre-release of the same three numbers (npm's rule). ADMITTED, or any other number:
  * each pre-release between the bounds matches. */
 enum { SEMVER_RESTRICTED = 0, SEMVER_ADMITTED = 1 };
@@ -229,14 +226,6 @@ int32_t semver_version_parts(const char *version, size_t version_len, char *out,
  * canonical form of the range), "requirement" (the string that the range was parsed from), and "scope" (without its @, or null). The
  * grammar is that of the range. */
 int32_t semver_package(uint32_t grammar, const char *text, size_t text_len, char *out, size_t out_len, size_t *needed);
-
-/* Why a package (SEMVER_PACKAGE) or a reference (SEMVER_REFERENCE) is invalid: YES; or NO, if it is valid. The members are "kind",
- * "message" (the error message of semver_package or semver_reference), "snippet" (the part of the string that is wrong, or null), and
- * "suggested" (a string to write instead, or null). The kinds are "NoPackageName", "InvalidPackageName", "MissingAtSymbol",
- * "SpecifierVersionReq", "NpmVersionReq" and "NormalizedVersionReq"; for a reference also "NotExpectedScheme" and
- * "InvalidPathWithVersion", which alone has a suggested string. The grammar is that of a package's range; a reference's range has the
- * strict grammar, whichever you pass. */
-int32_t semver_why(uint32_t what, uint32_t grammar, const char *text, size_t text_len, char *out, size_t out_len, size_t *needed);
 
 /* The parts of a reference to a package, such as jsr:@scope/name@1/mod.ts: YES. The members are "export" (the export of a JSR package,
  * or null for npm), "kind" ("jsr" or "npm"), "package" (as from semver_package), and "path" (or null). The range has the strict grammar. */

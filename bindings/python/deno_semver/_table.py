@@ -46,7 +46,6 @@ TABLE: Dict[str, Tuple[Any, ...]] = {
     "simplify": (c_int32, c_uint32, *TEXT, *TEXT, c_uint32, *TEXT, SIZE, SIZE),
     "sort": (c_int32, *TEXT, *PLACES, SIZE, SIZE),
     "package": (c_int32, c_uint32, *TEXT, *TEXT, SIZE),
-    "why": (c_int32, c_uint32, c_uint32, *TEXT, *TEXT, SIZE),
     "reference": (c_int32, *TEXT, *TEXT, SIZE),
     "package_errors": (c_int32, c_uint32, *TEXT, *TEXT, SIZE),
     "reference_errors": (c_int32, *TEXT, *TEXT, SIZE),

@@ -2,5 +2,4 @@ pub mod Outcomes
 pub mod PackagePlaces
 pub mod ReferencePlaces
 pub mod Reasons
-pub mod OneFault
 pub mod OneErrors

@@ -1,5 +1,4 @@
 pub mod Errors
-pub mod Faults
 pub mod Names
 pub mod Packages
 pub mod References

@@ -2,7 +2,6 @@
 #![tactic(auto)]
 
 pub mod errors;
-pub mod faults;
 pub mod names;
 pub mod packages;
 pub mod references;

@@ -17,12 +17,10 @@ use Rattle.answers.specs.Asking.{Fault, Invalid, IsOutcomeOf, OutOfMemory, fault
 use Rattle.answers.specs.declared.asking.Problem.{Problem as Unanswered_}
 use Rattle.semver_c.specs.declared.arguments.Problem.{Problem}
 use Rattle.semver_c.specs.declared.arguments.Problem.TheVariants as problem
-use Rattle.semver_c.specs.declared.arguments.Subject.{Subject}
-use Rattle.semver_c.specs.declared.arguments.Subject.TheVariants.{Package, Reference}
 
 -- ---- outcomes
 
--- why a call has no result: the question about its texts has none, no grammar or no subject has the number, bytes aren't valid UTF-8, or
+-- why a call has no result: the question about its texts has none, no grammar has the number, bytes aren't valid UTF-8, or
 -- a handle holds no value of the kind that is asked about
 pub data CallFault : Type 0 where
   Unanswered : Fault → CallFault
@@ -109,10 +107,6 @@ IsNumbered all number outcome = outcome ≡ or_none (slice_get all number)
 -- the grammars: npm's, the normalized and the strict one
 abbrev pub grammars : List Flavour
 grammars = Npm ∷ Normal ∷ Specifier ∷ []
-
--- what a text is
-abbrev pub subjects : List Subject
-subjects = Package ∷ Reference ∷ []
 
 -- the kinds of releases
 abbrev pub release_types : List ReleaseType

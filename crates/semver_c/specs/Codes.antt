@@ -112,16 +112,6 @@ abbrev pub text_of : Answer (List ℕ) → List ℕ
 text_of (Value text) = text
 text_of (Tag tag) = []
 
--- the code of a text that there may be
-abbrev pub found_code : Option (List ℕ) → Code
-found_code (Some text) = code.Yes
-found_code None = code.No
-
--- none has no text
-abbrev pub found_text : Option (List ℕ) → List ℕ
-found_text (Some text) = text
-found_text None = []
-
 -- the code of a best match
 abbrev pub best_code : Answer (Option Best) → Code
 best_code (Value (Some best)) = code.Yes

@@ -15,7 +15,6 @@ use Rattle.answers.specs.Asking.{Fault, Given, Is}
 use Rattle.answers.specs.Errors.{IsErrorsText}
 use Rattle.answers.specs.ExplainedJson.{Explains}
 use Rattle.answers.specs.Filtering.{Filter, VersionLines}
-use Rattle.package_answers.specs.Faults.{IsPackageFault, IsReferenceFault}
 use Rattle.package_answers.specs.Packages.{IsPackageErrorsText}
 use Rattle.answers.specs.Questions.{BestMatch, Common, Equivalent, LiesOutside, Matches, Outside, match_of}
 use Rattle.answers.specs.Reading.{IsRangeAt, IsVersionAt}
@@ -28,11 +27,9 @@ use Rattle.answers.specs.declared.asking.Answer.TheVariants.{Value}
 use Rattle.answers.specs.declared.questions.Best.{Best}
 use Rattle.answers.specs.declared.questions.End.{End}
 use Rattle.answers.specs.declared.sorting.Order.TheVariants.{Ascending}
-use Rattle.semver_c.specs.Arguments.{CallFault, Called, IsNumbered, IsUtf8Text, bases, directions, parts_by, pre_release_by, release_types, subjects}
+use Rattle.semver_c.specs.Arguments.{CallFault, Called, IsNumbered, IsUtf8Text, bases, directions, parts_by, pre_release_by, release_types}
 use Rattle.semver_c.specs.Codes.{match_code}
 use Rattle.semver_c.specs.Given.{IsWithText, IsWithTexts}
-use Rattle.semver_c.specs.declared.arguments.Subject.{Subject}
-use Rattle.semver_c.specs.declared.arguments.Subject.TheVariants.{Package, Reference}
 use Rattle.semver_c.specs.declared.codes.Code.{Code}
 use Rattle.semver_c.specs.declared.questions.Numbers.{Numbers}
 
@@ -116,16 +113,6 @@ TagBy g range = ByOne g range (λ f text. Given (IsRangeAt f 0 text) (λ req. Is
 -- `semver_sort`
 abbrev pub SortsOf : List ℕ → Result (List ℕ) CallFault → Type 0
 SortsOf versions = OfText versions (λ text. Sorts Ascending (lines text))
-
--- none for a valid text of the subject; for an invalid one the JSON of its error
-abbrev pub IsFaultOf : Subject → Flavour → List ℕ → Option (List ℕ) → Type 0
-IsFaultOf Package f text = IsPackageFault f text
-IsFaultOf Reference f text = IsReferenceFault text
-
--- `semver_why`
-abbrev pub WhyBy : ℕ → ℕ → List ℕ → Result (Option (List ℕ)) CallFault → Type 0
-WhyBy what g text = Given (IsNumbered subjects what)
-    (λ s. ByOne g text (λ f t outcome. (fault : Option (List ℕ)) × IsFaultOf s f t fault × (outcome ≡ Ok fault)))
 
 -- what a range means
 abbrev pub ExplainsBy : ℕ → ℕ → List ℕ → Result (Answer (List ℕ)) CallFault → Type 0

@@ -4,7 +4,7 @@ ghost use Rattle.std.specs.Prelude.{◌≡◌, Err, IfOk, MatchResult, Result, m
 ghost use Rattle.std.specs.Str.Lines.{lines};
 ghost use Rattle.answers.specs.declared.asking.Problem.{Problem as Unanswered};
 ghost use Rattle.answers.specs.declared.asking.Problem.TheVariants as unanswered;
-ghost use Rattle.semver_c.specs.Arguments.{IsArgument, asked_result, IsNumbered, IsUtf8Text, bases, call_fault, call_message, directions, fault_place, grammars, parts_by, pre_release_by, release_types, subjects};
+ghost use Rattle.semver_c.specs.Arguments.{IsArgument, asked_result, IsNumbered, IsUtf8Text, bases, call_fault, call_message, directions, fault_place, grammars, parts_by, pre_release_by, release_types};
 ghost use Rattle.semver_c.specs.Given.{IsWithText, IsWithTexts, text_given, texts_given};
 ghost use Rattle.semver_c.specs.Codes.{fault_code};
 ghost use Rattle.semver_c.specs.declared.arguments.Problem.TheVariants as problem;
@@ -103,20 +103,6 @@ fn flavour(number: u32) -> Result<Flavour, Problem>
     ensures { IsArgument (IsNumbered grammars number) (λ flavour. flavour) result }
 {
     numbered(&[Flavour::Npm, Flavour::Normal, Flavour::Specifier], number)
-}
-
-/// What a text is: a package, or a reference to one.
-#[derive(Clone, Copy)]
-pub enum Subject {
-    Package,
-    Reference,
-}
-
-/// The subject of this number.
-pub fn subject_of(number: u32) -> Result<Subject, Problem>
-    ensures { IsArgument (IsNumbered subjects number) (λ subject. subject) result }
-{
-    numbered(&[Subject::Package, Subject::Reference], number)
 }
 
 /// The kind of release of this number.

@@ -27,9 +27,9 @@ ghost use Rattle.package_answers.specs.Specifiers.{DependencyParts, VersionRefer
 ghost use Rattle.answers.specs.Reading.{IsVersionAt};
 ghost use Rattle.package_answers.specs.References.{ReferenceParts};
 ghost use Rattle.semver_c.specs.Arguments.{pre_release_by};
-ghost use Rattle.semver_c.specs.Codes.{IsCode, IsPlaceReply, IsPlaced, IsReply, IsReported, IsUntouched, IsUntouchedWithoutValue, always_yes, as_place, best_code, best_place, bool_code, code_of, filter_code, filter_numbers, found_code, found_text, lowest_code, lowest_text, match_code, no_place, no_text, number_of, or_message, or_nothing, order_code, text_code, text_of, three_numbers, unqualified_code, yes};
+ghost use Rattle.semver_c.specs.Codes.{IsCode, IsPlaceReply, IsPlaced, IsReply, IsReported, IsUntouched, IsUntouchedWithoutValue, always_yes, as_place, best_code, best_place, bool_code, code_of, filter_code, filter_numbers, lowest_code, lowest_text, match_code, no_place, no_text, number_of, or_message, or_nothing, order_code, text_code, text_of, three_numbers, unqualified_code, yes};
 ghost use Rattle.semver_c.specs.Held.{AreHeldScans, IsHeld, IsHeldBest, IsHeldEqual, IsScansCode, OfHeld, of_both, of_one, range_in, scan_at, scan_code, scans_in, version_in, versions_in};
-ghost use Rattle.semver_c.specs.Questions.{BestLine, ByOne, ByTwo, CoercesTo, CommonBy, CommonOfAll, EquivalentBy, ErrorsBy, ExplainsBy, ExportNameOf, Filters, Fits, IncrementBy, Lies, LowestBy, MatchesHeld, NumbersOf, OfText, OfTexts, OutsideBy, PackageErrorsBy, RangeBy, ReferenceErrorsOf, SimplifiesBy, SortsOf, TagBy, VersionErrorOf, VersionListOf, WhyBy};
+ghost use Rattle.semver_c.specs.Questions.{BestLine, ByOne, ByTwo, CoercesTo, CommonBy, CommonOfAll, EquivalentBy, ErrorsBy, ExplainsBy, ExportNameOf, Filters, Fits, IncrementBy, Lies, LowestBy, MatchesHeld, NumbersOf, OfText, OfTexts, OutsideBy, PackageErrorsBy, RangeBy, ReferenceErrorsOf, SimplifiesBy, SortsOf, TagBy, VersionErrorOf, VersionListOf};
 ghost use Rattle.semver_c.specs.declared.codes.Code.{Code};
 ghost use Rattle.semver_c.specs.declared.codes.Code.TheVariants as code;
 
@@ -61,7 +61,7 @@ use questions::{
     displayed_held, errors_of, export_name_of, filter, filter_held, increment_of, is_tag, key_held,
     lowest, match_code, matches_held, names_tag, numbers_of, order_of, package_errors_of,
     read_list, read_package_of, read_range, read_version, reference_errors_of, simplified_of,
-    sorted_held, sorted_lines, version_error_of, why_invalid,
+    sorted_held, sorted_lines, version_error_of,
 };
 use reports::{
     put, put_items, put_place, report_best, report_filter, report_held, report_lowest,
@@ -595,33 +595,6 @@ pub extern "C" fn semver_package(
         |given| package_parts(alloc, given.flavour, given.text),
     );
     report_text(answer, out, needed)
-}
-
-/// Why the text of a package, at 0, or of a reference, at 1, is invalid, as JSON: yes; no, if it is valid. The grammar is that of a
-/// package's range; that of a reference's is the strict one.
-#[unsafe(no_mangle)]
-pub extern "C" fn semver_why(
-    alloc: Global,
-    what: u32,
-    grammar: u32,
-    text: &[u8],
-    out: &mut [u8],
-    needed: &mut usize,
-) -> i32
-    ensures { IsReply (WhyBy what grammar text.now) found_code (or_message found_text)
-        out.old out.new needed.new result }
-{
-    match why_invalid(alloc, what, grammar, text) {
-        Ok(Some(why)) => {
-            put(why.as_str(), out, needed);
-            Code::Yes.number()
-        }
-        Ok(None) => {
-            put("", out, needed);
-            Code::No.number()
-        }
-        Err(problem) => report_problem(&problem, out, needed),
-    }
 }
 
 /// The parts of a reference to a JSR or npm package, as JSON: yes. The grammar of its range is the strict one.

@@ -16,11 +16,11 @@ ghost use Rattle.answers.specs.Reading.{IsVersionAt};
 ghost use Rattle.semver_c.specs.Arguments.{IsCallAnswer, IsCallOutcome, pre_release_by};
 ghost use Rattle.semver_c.specs.Codes.{match_code};
 ghost use Rattle.semver_c.specs.Held.{IsHeldBest, OfHeld, of_both, of_one};
-ghost use Rattle.semver_c.specs.Questions.{BestLine, ByOne, CoercesTo, CommonBy, CommonOfAll, ErrorsBy, ExportNameOf, Filters, IncrementBy, LowestBy, MatchesHeld, NumbersOf, OfText, OfTexts, PackageErrorsBy, RangeBy, ReferenceErrorsOf, SimplifiesBy, SortsOf, TagBy, VersionErrorOf, VersionListOf, WhyBy};
+ghost use Rattle.semver_c.specs.Questions.{BestLine, ByOne, CoercesTo, CommonBy, CommonOfAll, ErrorsBy, ExportNameOf, Filters, IncrementBy, LowestBy, MatchesHeld, NumbersOf, OfText, OfTexts, PackageErrorsBy, RangeBy, ReferenceErrorsOf, SimplifiesBy, SortsOf, TagBy, VersionErrorOf, VersionListOf};
 
 use crate::arguments::{
-    Problem, Subject, base_of, direction_of, line_list, parts, pre_release, release_type_of,
-    subject_of, text_of, with_text, with_texts,
+    Problem, base_of, direction_of, line_list, parts, pre_release, release_type_of, text_of,
+    with_text, with_texts,
 };
 use crate::codes::Code;
 use answers::asking::Answer;
@@ -36,7 +36,6 @@ use deno_semver::package::PackageReq;
 use deno_semver::{PreRelease, Version, VersionReq};
 use node_semver::coerce::coerce;
 use node_semver::release_type::ReleaseType;
-use package_answers::faults::{package_fault, reference_fault};
 use package_answers::packages::{package_errors_text, read_package};
 use package_answers::references::reference_errors_text;
 use std::alloc::Global;
@@ -278,25 +277,6 @@ pub fn names_tag(alloc: Global, grammar: u32, bytes: &[u8]) -> Result<bool, Prob
     let given = with_text(grammar, bytes)?;
     let range = range(alloc, given.flavour, 0, given.text)?;
     Ok(is_tag(&range))
-}
-
-/// Why is the text of a package or a reference invalid?
-pub fn why_invalid(
-    alloc: Global,
-    what: u32,
-    grammar: u32,
-    bytes: &[u8],
-) -> Result<Option<String>, Problem>
-    ensures { IsCallAnswer (WhyBy what grammar bytes.now)
-        (λ answer. option_map string_bytes answer) result }
-{
-    let subject = subject_of(what)?;
-    let given = with_text(grammar, bytes)?;
-    let fault = match subject {
-        Subject::Package => package_fault(alloc, given.flavour, given.text),
-        Subject::Reference => reference_fault(alloc, given.text),
-    };
-    fault.map_err(Problem::from)
 }
 
 /// What is the name of the export that the path means?
