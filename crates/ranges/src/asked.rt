@@ -1,17 +1,21 @@
 //! `ranges asked`: what several manifests ask of the same packages.
 
 use crate::apart::first_apart;
-use crate::catalogs::{Catalogs, resolved, shelve};
-use crate::findings::Position;
-use crate::known::is_own;
-use crate::rewriting::range_of_specifier;
-use crate::walking::{Group, Manifests, find, read_file, without_mark};
 use answers::asking::Problem;
 use answers::object::Object;
 use answers::questions::text_of_version;
 use answers::reading::range;
+use checks::catalogs::{Catalogs, resolved, shelve};
+use checks::findings::Position;
+use checks::known::is_own;
+use checks::rewriting::range_of_specifier;
+use checks::walking::{Group, Manifests, find, read_file, without_mark};
 use clap::ArgMatches;
 use deno_semver::{PreRelease, VersionReq};
+use manifests::entry::Entry;
+use manifests::manifest::entries;
+use manifests::npm::{Reading, Source, as_read, is_package_name, read_range, renamed, source_of};
+use manifests::sections::Kind;
 use package_answers::references::read_reference;
 use semver_req::common::values::Flavour;
 use serde_json::Value;
@@ -21,11 +25,7 @@ use std::fs;
 use std::io::Write;
 use std::rt::{Files, Runtime};
 use terminal::console::{Console, Status, Stop, print_line};
-use terminal::entry::Entry;
 use terminal::hints::behind_protocol;
-use terminal::manifest::entries;
-use terminal::npm::{Reading, Source, as_read, is_package_name, read_range, renamed, source_of};
-use terminal::sections::Kind;
 use terminal::shown::{Quoted, Shown};
 
 // Who asks for a range.

@@ -1,26 +1,33 @@
 //! `ranges check`: the ranges of package.json, deno.json, import maps and lists of ranges.
 
-use crate::advice::{
-    EMPTY_AT_END, bound_of_pre_releases, differences, has_match, have_common_version, hint_of,
-    ignored, of_separators, warnings,
-};
-use crate::errors::{errors_at_end, errors_of, message_of};
 use crate::explaining::has_left_out;
-use crate::findings::{Aside, Cause, Finding, Format, Position, Report};
-use crate::fixing::{Rewritten, apply, pins_of, print_diffs, rewrite, set_above, write_all};
-use crate::known::{
-    Installer, Known, Manager, add_folder_name, is_own, known_of, linked_by, named_by,
-};
 use crate::overriding::Overrides;
-use crate::projects::by_project;
-use crate::rewriting::{is_rewritten, is_tag, pieces_of};
-use crate::rules::{Level, Levels, Rule, Unknown};
-use crate::walking::{Group, Manifests, find, path_in_repository, read_file, without_mark};
 use answers::asking::Problem;
 use answers::explained::{Explanation, Meaning, Piece, explain};
 use answers::questions::displayed;
+use checks::advice::{
+    EMPTY_AT_END, bound_of_pre_releases, differences, has_match, have_common_version, hint_of,
+    ignored, of_separators, warnings,
+};
+use checks::errors::{errors_at_end, errors_of, message_of};
+use checks::findings::{Aside, Cause, Finding, Format, Position, Report};
+use checks::fixing::{Rewritten, apply, pins_of, print_diffs, rewrite, set_above, write_all};
+use checks::known::{
+    Installer, Known, Manager, add_folder_name, is_own, known_of, linked_by, named_by,
+};
+use checks::projects::by_project;
+use checks::rewriting::{is_rewritten, is_tag, pieces_of};
+use checks::rules::{Level, Levels, Rule, Unknown};
+use checks::walking::{Group, Manifests, find, path_in_repository, read_file, without_mark};
 use clap::ArgMatches;
 use deno_semver::PreRelease;
+use manifests::entry::Entry;
+use manifests::manifest::entries;
+use manifests::npm::{
+    self, Reading, Source, ends_in_key, is_package_name, name_and_range, number_behind_zero,
+    source_of,
+};
+use manifests::sections::Kind;
 use package_answers::errors::PackageErrors;
 use package_answers::references::read_reference;
 use semver_req::common::values::Flavour;
@@ -30,15 +37,8 @@ use std::fs;
 use std::io::Write;
 use std::rt::{Files, Runtime};
 use terminal::console::{Console, Status, Stop, print_line};
-use terminal::entry::Entry;
 use terminal::hints::{question, url_behind};
-use terminal::manifest::entries;
-use terminal::npm::{
-    self, Reading, Source, ends_in_key, is_package_name, name_and_range, number_behind_zero,
-    source_of,
-};
 use terminal::pointing::version_errors;
-use terminal::sections::Kind;
 use terminal::shown::{Quoted, Shown, part};
 
 // ---- ranges

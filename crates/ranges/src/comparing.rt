@@ -1,11 +1,11 @@
 //! The commands that print one line.
 
 use crate::apart::first_apart;
-use crate::errors::{add_first, errors_of, message_of, print_errors};
 use answers::asking::{Answer, Kind, Problem};
 use answers::object::Object;
 use answers::questions::{common_version, order, text_of_version, version_outside};
 use answers::reading::{range, ranges};
+use checks::errors::{add_first, errors_of, message_of, print_errors};
 use deno_semver::Version;
 use semver_req::common::values::Flavour;
 use serde_json::{Value, put};

@@ -1,10 +1,10 @@
 //! `ranges explain`: what a range means.
 
-use crate::advice::notes;
 use crate::comparing::{Line, print_json, print_tag, reject_line};
-use crate::rewriting::pieces_of;
 use answers::explained::{Explanation, Matches, Meaning, Piece, explain};
 use answers::explained_json::ranges_explained;
+use checks::advice::notes;
+use checks::rewriting::pieces_of;
 use deno_semver::{PreRelease, RangeBound, Version, VersionBound, VersionBoundKind, VersionRange};
 use semver_req::common::values::Flavour;
 use std::fmt;

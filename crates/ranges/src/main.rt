@@ -8,28 +8,16 @@
 //! and 3 if a file can't be read.
 #![tactic(auto)]
 
-mod advice;
 mod apart;
 mod asked;
-mod catalogs;
 mod checking;
 mod comparing;
-mod diff;
-mod errors;
 mod explaining;
-mod findings;
-mod fixing;
-mod known;
 mod listed;
 mod overriding;
 mod packaged;
-mod projects;
-mod relative;
-mod rewriting;
-mod rules;
 mod scanned;
 mod stepping;
-mod walking;
 
 use clap::ArgMatches;
 use clap::error::ErrorKind as Mistake;

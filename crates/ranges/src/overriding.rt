@@ -3,14 +3,14 @@
 use answers::asking::Problem;
 use answers::reading;
 use deno_semver::VersionReq;
+use manifests::entry::Entry;
+use manifests::npm::{
+    Reading, Source, as_read, is_remote, name_and_range, read_range, refused_part, source_of,
+};
+use manifests::sections::Kind;
 use semver_req::common::values::Flavour;
 use std::alloc::{AllocError, Global};
 use std::collections::{HashMap, HashSet};
-use terminal::entry::Entry;
-use terminal::npm::{
-    Reading, Source, as_read, is_remote, name_and_range, read_range, refused_part, source_of,
-};
-use terminal::sections::Kind;
 
 // The sections of dependencies. Of a package in several of them npm takes the last one.
 const SECTIONS: [&str; 4] = [

@@ -3,13 +3,13 @@
 use crate::comparing::{print_json, reject};
 use deno_semver::jsr::normalized_export_name;
 use deno_semver::package::{PackageKind, PackageReq};
+use manifests::npm::is_package_name;
 use package_answers::packages::{package_json, read_package, scope_and_name};
 use package_answers::references::{Reference, read_reference, reference_json};
 use std::io::Write;
 use terminal::console::{Console, Status, Stop, print_line};
 use terminal::given::Given;
 use terminal::hints::url_behind;
-use terminal::npm::is_package_name;
 use terminal::shown::Shown;
 
 // Prints a part on a line, if there is one.

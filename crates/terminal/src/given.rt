@@ -1,8 +1,7 @@
 //! The texts that a command is given, of which one may be a line of standard input.
 
 use crate::console::{Console, Status, Stop};
-use crate::input::{HYPHEN, unread};
-use crate::manifest::unescaped;
+use crate::input::{HYPHEN, unescaped, unread};
 use clap::ArgMatches;
 use std::alloc::{AllocError, Global};
 use std::io::{BufRead, BufReader, Read, Write};

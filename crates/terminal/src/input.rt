@@ -1,11 +1,11 @@
 //! The versions of a command: its arguments, or standard input, as lines or as a JSON array.
 
 use crate::console::{Console, Status, Stop};
-use crate::manifest::unescaped;
 use crate::shown::Quoted;
 use clap::ArgMatches;
 use semver_base::version::Version;
 use serde_json::Value;
+use std::alloc::{AllocError, Global};
 use std::io;
 use std::io::{BufRead, BufReader, ErrorKind, Read, Write};
 
@@ -187,6 +187,19 @@ fn take_items<O: Write, E: Write, T: Take>(
         status = status.worse(taken);
     }
     Ok(status)
+}
+
+/// The text that JSON means by this part between two quotes.
+pub fn unescaped(alloc: Global, raw: &str) -> Result<String, AllocError> {
+    if !raw.contains('\\') {
+        return String::from_str(alloc, raw);
+    }
+    let quoted = format!(in alloc; "\"{raw}\"")?;
+    match Value::from_str(alloc, quoted.as_str()) {
+        Ok(value) => String::from_str(alloc, value.as_str().unwrap_or(raw)),
+        Err(error) if error.is_memory() => Err(AllocError),
+        Err(_) => String::from_str(alloc, raw),
+    }
 }
 
 /// All of standard input, a range per line.

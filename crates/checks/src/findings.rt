@@ -5,6 +5,8 @@ use crate::rewriting::replacement;
 use crate::rules::{Level, Levels, RULES, Rule};
 use answers::object::Object;
 use clap::ArgMatches;
+use manifests::entry::Entry;
+use manifests::sections::Kind;
 use package_answers::errors::PackageErrors;
 use semver_req::common::values::Flavour;
 use serde_json::Value;
@@ -13,8 +15,6 @@ use std::fmt;
 use std::io::Write;
 use terminal::args::VERSION;
 use terminal::console::{Console, END, ERROR, Status, Stop, WARNING, print_line};
-use terminal::entry::Entry;
-use terminal::sections::Kind;
 use terminal::shown::{Quoted, Shown};
 
 /// How findings are printed.

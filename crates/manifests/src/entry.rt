@@ -2,8 +2,8 @@
 
 use crate::escaped::written_index;
 use crate::sections::Kind;
-use crate::shown::part;
 use std::alloc::Global;
+use terminal::shown::part;
 
 /// A text of a file, or a mistake in it.
 #[derive(Drop)]

@@ -6,18 +6,18 @@ use answers::asking::Problem;
 use answers::explained::{Explanation, Matches, Meaning, Piece, explain};
 use answers::reading;
 use deno_semver::{PreRelease, RangeBound};
+use manifests::entry::Entry;
+use manifests::npm::{
+    Reading, Source, is_reference, number_behind_wildcard, number_behind_zero, read_range,
+    refused_part, renamed, source_of,
+};
+use manifests::sections::Kind;
 use package_answers::references::read_reference;
 use semver_req::common::values::Flavour;
 use semver_req::error_places::pieces::invalid_pieces_behind;
 use std::alloc::{AllocError, Global};
 use terminal::console::Stop;
-use terminal::entry::Entry;
 use terminal::hints::corrected;
-use terminal::npm::{
-    Reading, Source, is_reference, number_behind_wildcard, number_behind_zero, read_range,
-    refused_part, renamed, source_of,
-};
-use terminal::sections::Kind;
 use terminal::shown::part;
 
 /// A range in a text.

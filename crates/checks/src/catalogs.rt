@@ -1,9 +1,9 @@
 //! Catalogs: the ranges to which the manifests of a workspace refer by `catalog:`.
 
+use manifests::entry::Entry;
+use manifests::sections::Kind;
 use std::alloc::{AllocError, Global};
 use std::collections::BTreeMap;
-use terminal::entry::Entry;
-use terminal::sections::Kind;
 
 /// The name of the catalog that a key or a reference names; the one without a name has two.
 pub fn catalog_name(name: &str) -> &str {

@@ -3,6 +3,9 @@
 use crate::findings::Position;
 use answers::asking::Problem;
 use answers::reading;
+use manifests::entry::Entry;
+use manifests::manifest::entries;
+use manifests::sections::Kind;
 use patterns::ignored::{Ignored, is_ignored};
 use patterns::paths::names_of;
 use patterns::workspaces::{Way, Workspace, is_workspace, undo, way_to};
@@ -14,9 +17,6 @@ use std::io::{BufRead, ErrorKind, Read, Write};
 use std::rt::{Files, Runtime};
 use std::{env, fs, io, str};
 use terminal::console::{Console, Status, Stop};
-use terminal::entry::Entry;
-use terminal::manifest::entries;
-use terminal::sections::Kind;
 use terminal::shown::{Quoted, Shown};
 
 // The names of manifests, in their order.

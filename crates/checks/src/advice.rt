@@ -5,9 +5,9 @@ use answers::asking::{Answer, Problem};
 use answers::explained::{Comparator, Matches, Meaning, Piece};
 use answers::questions::{common_version, version_outside};
 use deno_semver::{PreRelease, RangeBound, Version, VersionBound, VersionBoundKind, VersionRange};
+use manifests::npm::{Reading, as_read, number_behind_wildcard, number_behind_zero, read_range};
 use semver_req::common::values::Flavour;
 use std::alloc::{AllocError, Global};
-use terminal::npm::{Reading, as_read, number_behind_wildcard, number_behind_zero, read_range};
 use terminal::shown::Quoted;
 
 /// More alternatives than these aren't compared with one another.

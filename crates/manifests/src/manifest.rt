@@ -6,21 +6,8 @@ use crate::entry::Entry;
 use crate::json::mistake_in;
 use crate::sections::Kind;
 use crate::yaml::{entries_of_yaml, without_comment};
-use serde_json::Value;
 use std::alloc::{AllocError, Global};
-
-/// The text that JSON means by this part between two quotes.
-pub fn unescaped(alloc: Global, raw: &str) -> Result<String, AllocError> {
-    if !raw.contains('\\') {
-        return String::from_str(alloc, raw);
-    }
-    let quoted = format!(in alloc; "\"{raw}\"")?;
-    match Value::from_str(alloc, quoted.as_str()) {
-        Ok(value) => String::from_str(alloc, value.as_str().unwrap_or(raw)),
-        Err(error) if error.is_memory() => Err(AllocError),
-        Err(_) => String::from_str(alloc, raw),
-    }
-}
+use terminal::input::unescaped;
 
 // Goes over JSON.
 #[derive(Drop)]

@@ -1,10 +1,10 @@
 //! What npm makes of the text of a dependency: where it comes from, and how its range is read, leniently. These rules are npm's own, and
 //! tested alone.
 
-use crate::hints::{behind_protocol, is_protocol};
 use semver_req::common::values::Flavour;
 use semver_req::error_places::pieces::invalid_pieces_behind;
 use std::alloc::{AllocError, Global};
+use terminal::hints::{behind_protocol, is_protocol};
 
 /// Where a dependency comes from.
 #[derive(Clone, Copy)]

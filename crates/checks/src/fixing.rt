@@ -5,6 +5,9 @@ use crate::relative::paths_in_diff;
 use crate::rewriting::{Found, better, found_in, is_pinned, is_written};
 use crate::rules::Levels;
 use crate::walking::{Group, entries_of, read_file, without_mark};
+use manifests::entry::Entry;
+use manifests::manifest::entries;
+use manifests::sections::Kind;
 use std::alloc::{AllocError, Global};
 use std::collections::HashSet;
 use std::fs::{Metadata, OpenFile, OpenOptions, Permissions};
@@ -15,9 +18,6 @@ use std::path::PathBuf;
 use std::rt::Files;
 use std::{fmt, fs, io};
 use terminal::console::{Console, Status, Stop};
-use terminal::entry::Entry;
-use terminal::manifest::entries;
-use terminal::sections::Kind;
 use terminal::shown::Shown;
 
 // Whether YAML takes a text without quotes for a string.

@@ -4,12 +4,12 @@ use crate::walking::{
     Group, Roots, Setting, entries_of, is_manifest, is_of_same, manifests_above, real_path,
     split_path,
 };
+use manifests::sections::Kind;
 use std::alloc::{AllocError, Global};
 use std::collections::{BTreeMap, HashMap};
 use std::io::Write;
 use std::rt::{Files, Runtime};
 use terminal::console::{Console, Stop};
-use terminal::sections::Kind;
 
 // Where a file belongs.
 #[derive(Drop)]

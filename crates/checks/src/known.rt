@@ -5,6 +5,11 @@ use crate::walking::{Group, entries_of, members_of, split_path};
 use answers::asking::{Answer, Problem};
 use answers::questions::matches;
 use deno_semver::PreRelease;
+use manifests::entry::Entry;
+use manifests::npm::{
+    Source, as_read, ends_in_key, is_package_name, is_refused, name_and_range, renamed, source_of,
+};
+use manifests::sections::Kind;
 use semver_req::common::values::Flavour;
 use std::alloc::{AllocError, Global};
 use std::collections::{BTreeMap, HashSet};
@@ -12,12 +17,7 @@ use std::fs;
 use std::io::Write;
 use std::rt::{Files, Runtime};
 use terminal::console::{Console, Stop};
-use terminal::entry::Entry;
 use terminal::hints::behind_protocol;
-use terminal::npm::{
-    Source, as_read, ends_in_key, is_package_name, is_refused, name_and_range, renamed, source_of,
-};
-use terminal::sections::Kind;
 use terminal::shown::part;
 
 const WORKSPACE: &str = "pnpm-workspace.yaml";
