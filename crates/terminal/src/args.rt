@@ -684,7 +684,8 @@ fn command<'a>(
     let mut command = Command::new(alloc, entry.name)
         .about(entry.about)
         .after_help(entry.examples)
-        .version(VERSION);
+        .version(VERSION)
+        .args_override_self(true);
     for alias in &ALIASES {
         if entry.name == alias.0 {
             command = command.visible_alias(alias.1)?;
@@ -755,6 +756,7 @@ pub fn program<'a>(
         .about("Explain version ranges of npm and JSR packages, and find the versions that match")
         .after_help(STATUSES)
         .version(VERSION)
+        .args_override_self(true)
         .subcommand_required(true)
         .arg_required_else_help(true)
         .arg(color)?;
