@@ -409,7 +409,7 @@ impl Left {
     // Goes into a folder below another. If it has a repository of its own, git ignores nothing in it by files of the outer one.
     fn enter<R: Runtime + AllocGlobal>(&mut self, rt: &R, folder: &str) -> io::Result<()> {
         let git = joined(rt.alloc(), folder, ".git")?;
-        if !fs::exists(rt, git.as_str()).unwrap_or(false) {
+        if !self.has_files || !fs::exists(rt, git.as_str()).unwrap_or(false) {
             return Ok(());
         }
         self.outer = self.ignored.len();
@@ -538,6 +538,22 @@ fn listed<R: Runtime + AllocGlobal, O: Write, E: Write>(
     }
 }
 
+// What files above a folder say is ignored there; nothing with --no-ignore.
+fn ignored_for<R: Runtime + AllocGlobal, O: Write, E: Write>(
+    rt: &R,
+    console: &Console<O, E>,
+    folder: &str,
+) -> Result<Vec<Ignored>, Stop> {
+    if console.options.no_ignore {
+        return Ok(Vec::new(console.alloc));
+    }
+    match ignored_above(rt, folder) {
+        Ok(ignored) => Ok(ignored),
+        // Nothing else goes wrong.
+        Err(_) => Err(Stop::OutOfMemory),
+    }
+}
+
 // Finds the manifests in a folder and in those below it, but in none named `node_modules` or `.git`, nor in what is left out. The
 // folder's own come first.
 fn manifests_in<R: Runtime + AllocGlobal, O: Write, E: Write>(
@@ -550,16 +566,13 @@ fn manifests_in<R: Runtime + AllocGlobal, O: Write, E: Write>(
     let alloc = console.alloc;
     let mut found = Group::new(alloc);
     found.is_walked = true;
-    let ignored = match ignored_above(rt, folder) {
-        Ok(ignored) => ignored,
-        Err(_) => return Err(Stop::OutOfMemory),
-    };
+    let ignored = ignored_for(rt, console, folder)?;
     let first = Waiting {
         folder: String::from_str(alloc, folder)?,
         ignored: ignored.len(),
         outer: 0,
     };
-    let mut left = Left::new(ignored, excluded, true);
+    let mut left = Left::new(ignored, excluded, !console.options.no_ignore);
     let mut waiting = vec![in alloc; first]?;
     for turn in 0..u64::MAX {
         let Some(
@@ -963,7 +976,8 @@ fn manifests_here<R: Runtime + AllocGlobal, O: Write, E: Write>(
 ) -> Result<Group, Stop> {
     let alloc = console.alloc;
     let mut found = Group::new(alloc);
-    let mut left = Left::new(Vec::new(alloc), excluded(alloc, excludes)?, true);
+    let has_files = !console.options.no_ignore;
+    let mut left = Left::new(Vec::new(alloc), excluded(alloc, excludes)?, has_files);
     match list(rt, "", &mut left) {
         Ok(Folder { manifests, .. }) => found.paths = manifests,
         Err(error) => {

@@ -55,6 +55,8 @@ pub struct Options {
     pub null: bool,
     /// Whether what isn't a version is passed over.
     pub skip_invalid: bool,
+    /// Whether folders have all their manifests, also those that git ignores.
+    pub no_ignore: bool,
 }
 
 impl Options {
@@ -78,6 +80,7 @@ impl Options {
             reverse: matches.get_flag("reverse"),
             null: matches.get_flag("null"),
             skip_invalid: matches.get_flag("skip-invalid"),
+            no_ignore: matches.get_flag("no-ignore"),
         }
     }
 
@@ -232,6 +235,12 @@ const EXCLUDE: Argument = Argument {
     name: "exclude",
     form: Form::Values("PATTERN"),
     help: "In folders, leave out what this pattern of .gitignore matches",
+};
+
+const NO_IGNORE: Argument = Argument {
+    name: "no-ignore",
+    form: Form::Flag(None, &[]),
+    help: "In folders, also take what git's ignore rules and .ignore match",
 };
 
 const LIST: Argument = Argument {
@@ -408,8 +417,8 @@ const ON_FILES: &[Entry] = &[
         name: "check",
         about: "Check the ranges of package.json, deno.json, import maps and pnpm-workspace.yaml",
         arguments: &[
-            JSON, GITHUB, SARIF, CANONICAL, FIX, DRY_RUN, EXCLUDE, LIST, NULL_PATHS, RULE, STRICT,
-            QUIET, FILES,
+            JSON, GITHUB, SARIF, CANONICAL, FIX, DRY_RUN, EXCLUDE, NO_IGNORE, LIST, NULL_PATHS,
+            RULE, STRICT, QUIET, FILES,
         ],
         examples: "\
 Examples:
@@ -431,7 +440,9 @@ Exit status: 0 no error; 1 an error, or with --strict a warning, or --dry-run pr
     Entry {
         name: "asked",
         about: "Print the packages that several manifests ask for, and each range",
-        arguments: &[JSON, PRE, EXCLUDE, QUIET, FOLDER, NAMED, APART],
+        arguments: &[
+            JSON, PRE, EXCLUDE, NO_IGNORE, QUIET, FOLDER, NAMED, APART,
+        ],
         examples: "\
 Examples:
   ranges asked
