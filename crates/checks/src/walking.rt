@@ -515,6 +515,9 @@ struct Waiting {
     outer: usize,
 }
 
+// What is said of a folder in which a name isn't valid UTF-8. The standard library doesn't tell that name.
+const PASSED_OVER: &str = "passed over a name that isn't valid UTF-8, and what is below it; if it's a folder, run ranges there";
+
 // Lists a folder, or reports that it can't be read. A note says whether a name in it can't: most such names are no manifests.
 fn listed<R: Runtime + AllocGlobal, O: Write, E: Write>(
     rt: &R,
@@ -527,7 +530,7 @@ fn listed<R: Runtime + AllocGlobal, O: Write, E: Write>(
         Ok(held) => {
             if held.has_other {
                 let folder = Shown(shown_folder(folder));
-                console.tell(format_args!("{folder}: passed over a name that isn't valid UTF-8"));
+                console.tell(format_args!("{folder}: {PASSED_OVER}"));
             }
             Ok(Some(held))
         }
