@@ -149,6 +149,8 @@ pub struct Report<'r> {
     pub warning: Status,
     /// The keys of resolutions that name a package with a range, if the format is JSON: --fix leaves such ranges alone.
     pub pins: &'r [String],
+    /// Whether --fix leaves the file alone.
+    pub is_left: bool,
     /// What is said of refusals of this entry.
     pub aside: Option<Aside>,
 }
@@ -221,6 +223,7 @@ impl<'r> Report<'r> {
             status: Status::Answered,
             warning,
             pins: &[],
+            is_left: false,
             aside: None,
         }
     }
@@ -432,7 +435,11 @@ impl Report<'_> {
         };
         let name = name_of(alloc, entry)?;
         let hint = hint_of(alloc, entry, finding)?;
-        let better = replacement(alloc, &self.levels, self.pins, entry)?;
+        let better = if self.is_left {
+            None
+        } else {
+            replacement(alloc, &self.levels, self.pins, entry)?
+        };
         let mut json = Object::new(alloc)
             .put("column", Ok(Value::from(self.position.column)))
             .put_text("file", Some(self.file))

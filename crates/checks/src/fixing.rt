@@ -4,7 +4,7 @@ use crate::diff::print_diff;
 use crate::relative::paths_in_diff;
 use crate::rewriting::{Found, better, found_in, is_pinned, is_written};
 use crate::rules::Levels;
-use crate::walking::{Group, entries_of, read_file, without_mark};
+use crate::walking::{Group, Text, entries_of, read_file, without_mark};
 use manifests::entry::Entry;
 use manifests::manifest::entries;
 use manifests::sections::Kind;
@@ -115,15 +115,17 @@ pub fn pins_of<R: Files + AllocGlobal>(rt: &R, group: &Group) -> Result<Vec<Stri
     Ok(pins)
 }
 
-// A file with better ranges. Its other bytes stay.
+// A file with better ranges. Its other bytes stay, so one with bytes that aren't valid UTF-8 stays as it is.
 fn with_fixes(
     alloc: Global,
     path: &str,
-    old: String,
+    read: Text,
     entries: &[Entry],
     levels: &Levels,
     pins: &[String],
 ) -> Result<Rewritten, Stop> {
+    let Text { text: old, invalid } = read;
+    let entries = if invalid.is_some() { &[] } else { entries };
     // Places count from behind the byte order mark.
     let file = old.as_str();
     let text = without_mark(file);
@@ -159,6 +161,7 @@ fn with_fixes(
         path,
         old,
         new,
+        invalid,
         count,
         left,
     })
@@ -171,6 +174,8 @@ pub struct Rewritten {
     pub path: String,
     old: String,
     pub new: String,
+    /// The index of the first byte that isn't valid UTF-8.
+    pub invalid: Option<usize>,
     /// How many ranges were rewritten.
     pub count: usize,
     /// How many weren't, since a key of resolutions names them.
@@ -183,6 +188,7 @@ impl Drop for Rewritten {
             path,
             old,
             new,
+            invalid: _,
             count: _,
             left: _,
         } = self;
@@ -454,8 +460,8 @@ pub fn rewrite<R: Input + Files + AllocGlobal, O: Write, E: Write>(
     let pins = pins_of(rt, group)?;
     for (place, path) in group.paths.iter().enumerate() {
         let path = path.as_str();
-        let old = read_file(rt, console, path)?;
-        let entries = entries(alloc, path, without_mark(old.as_str()))?;
+        let read = read_file(rt, console, path)?;
+        let entries = entries(alloc, path, without_mark(read.text.as_str()))?;
         let mut levels = shared;
         set_levels(alloc, &mut levels, entries.as_slice())?;
         if place < group.own {
@@ -465,7 +471,7 @@ pub fn rewrite<R: Input + Files + AllocGlobal, O: Write, E: Write>(
         let file = with_fixes(
             alloc,
             path,
-            old,
+            read,
             entries.as_slice(),
             &levels,
             pins.as_slice(),

@@ -31,6 +31,7 @@ pub enum Rule {
     MetaWithoutRange,
     NoMatch,
     NotCanonical,
+    NotUtf8,
     NpmDiffers,
     OddEngine,
     OddOverride,
@@ -54,7 +55,7 @@ pub struct About {
     pub help: &'static str,
 }
 
-const COUNT: usize = 21;
+const COUNT: usize = 22;
 
 /// All rules, by name.
 pub const RULES: [About; COUNT] = [
@@ -127,6 +128,13 @@ pub const RULES: [About; COUNT] = [
         level: Level::Off,
         finds: "The range isn't written in its canonical form.",
         help: "Write what `ranges canonical` prints, or run `ranges check --fix` with this rule on.",
+    },
+    About {
+        rule: Rule::NotUtf8,
+        name: "not-utf8",
+        level: Level::Warning,
+        finds: "A file of JSON has a byte that isn't valid UTF-8. npm reads U+FFFD in its place.",
+        help: "Save the file as UTF-8.",
     },
     About {
         rule: Rule::NpmDiffers,

@@ -129,10 +129,49 @@ fn joined(alloc: Global, folder: &str, name: &str) -> Result<String, AllocError>
     }
 }
 
+/// The text of a file.
+#[derive(Drop)]
+pub struct Text {
+    pub text: String,
+    /// The index of the first byte that isn't valid UTF-8; U+FFFD stands in the place of each.
+    pub invalid: Option<usize>,
+}
+
+// Whether a file is JSON by its name.
+fn is_json(path: &str) -> bool {
+    path.ends_with(".json") || path.ends_with(".jsonc")
+}
+
+// Reads a file in which some bytes aren't valid UTF-8.
+fn read_with_marks<R: Files + AllocGlobal>(rt: &R, path: &str) -> io::Result<Text> {
+    let bytes = fs::read(rt, path)?;
+    let bytes = bytes.as_slice();
+    let invalid = match str::from_utf8(bytes) {
+        Ok(_) => None,
+        Err(error) => Some(error.valid_up_to()),
+    };
+    let text = String::from_utf8_lossy(rt.alloc(), bytes)?;
+    Ok(Text { text, invalid })
+}
+
+// Reads a file. In JSON, JavaScript takes U+FFFD for what isn't valid UTF-8.
+fn read_text<R: Files + AllocGlobal>(rt: &R, path: &str) -> io::Result<Text> {
+    match fs::read_to_string(rt, path) {
+        Ok(text) => Ok(Text {
+            text,
+            invalid: None,
+        }),
+        Err(error) if error.kind() == ErrorKind::InvalidData && is_json(path) => {
+            read_with_marks(rt, path)
+        }
+        Err(error) => Err(error),
+    }
+}
+
 /// The entries of a file; none if it can't be read.
 pub fn entries_of<R: Files + AllocGlobal>(rt: &R, path: &str) -> Result<Vec<Entry>, Stop> {
-    match fs::read_to_string(rt, path) {
-        Ok(text) => Ok(entries(rt.alloc(), path, without_mark(text.as_str()))?),
+    match read_text(rt, path) {
+        Ok(read) => Ok(entries(rt.alloc(), path, without_mark(read.text.as_str()))?),
         Err(error) if error.kind() == ErrorKind::OutOfMemory => Err(Stop::OutOfMemory),
         Err(_) => Ok(Vec::new(rt.alloc())),
     }
@@ -1160,18 +1199,21 @@ pub fn read_file<R: Input + Files + AllocGlobal, O: Write, E: Write>(
     rt: &R,
     console: &mut Console<O, E>,
     file: &str,
-) -> Result<String, Stop> {
+) -> Result<Text, Stop> {
     let read = if file == "-" {
         console.announce("ranges");
         let mut text = String::new(console.alloc);
-        rt.reader().read_to_string(&mut text).map(|_| text)
+        let invalid = None;
+        rt.reader()
+            .read_to_string(&mut text)
+            .map(|_| Text { text, invalid })
     } else {
-        fs::read_to_string(rt, file)
+        read_text(rt, file)
     };
     let mut is_missing = false;
     let reason = match read {
-        Ok(text) if text.is_empty() && file == "-" => "standard input is empty",
-        Ok(text) => return Ok(text),
+        Ok(read) if read.text.is_empty() && file == "-" => "standard input is empty",
+        Ok(read) => return Ok(read),
         Err(error) => match error.kind() {
             ErrorKind::OutOfMemory => return Err(Stop::OutOfMemory),
             ErrorKind::NotFound if file.contains(char::REPLACEMENT_CHARACTER) => {

@@ -25,8 +25,8 @@ pub struct Entry {
 }
 
 impl Entry {
-    // What is said of the file itself.
-    pub(crate) fn of_file(alloc: Global, start: usize, message: &'static str) -> Entry {
+    /// What is said of the file itself at this index.
+    pub fn of_file(alloc: Global, start: usize, message: &'static str) -> Entry {
         Entry {
             section: "",
             object: String::new(alloc),

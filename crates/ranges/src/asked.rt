@@ -390,12 +390,12 @@ fn add_manifest<R: Runtime + AllocGlobal, O: Write, E: Write>(
     path: &str,
     manifests: &mut Vec<Manifest>,
 ) -> Result<Status, Stop> {
-    let text = match read_file(rt, console, path) {
-        Ok(text) => text,
+    let read = match read_file(rt, console, path) {
+        Ok(read) => read,
         Err(Stop::Ended(unread)) => return Ok(unread),
         Err(stop) => return Err(stop),
     };
-    let text = without_mark(text.as_str());
+    let text = without_mark(read.text.as_str());
     let entries = entries(console.alloc, path, text)?;
     let status = complain_of(console, path, text, entries.as_slice());
     let path = String::from_str(console.alloc, path)?;

@@ -874,6 +874,8 @@ struct Checked<'f> {
     /// The path that findings name.
     shown: &'f str,
     text: &'f str,
+    /// The index of the first byte that isn't valid UTF-8.
+    invalid: Option<usize>,
     /// Whether npm installs it by itself, and so takes its overrides.
     is_root: bool,
     /// Whether the levels that it sets count for all files of its group.
@@ -1378,6 +1380,24 @@ fn check_entries<O: Write, E: Write>(
     Ok(())
 }
 
+// Reports the first byte of a file that isn't valid UTF-8.
+fn report_byte<O: Write, E: Write>(
+    console: &mut Console<O, E>,
+    report: &mut Report<'_>,
+    file: Checked<'_>,
+) -> Result<(), Stop> {
+    let Some(index) = file.invalid else {
+        return Ok(());
+    };
+    let mark = file.text.len().saturating_sub(report.text.len());
+    let message = "not valid UTF-8: npm reads U+FFFD here, and --fix doesn't change this file";
+    let entry = Entry::of_file(console.alloc, index.saturating_sub(mark), message);
+    report.position.move_to(report.text, entry.start);
+    report.add(console, &entry, Finding::by(Rule::NotUtf8, message))?;
+    report.position = Position::START;
+    Ok(())
+}
+
 // Checks the text of a file. The report has the levels of the group, and takes those of the group's own files.
 fn check_text<O: Write, E: Write>(
     console: &mut Console<O, E>,
@@ -1393,6 +1413,7 @@ fn check_text<O: Write, E: Write>(
         file: file.shown,
         text,
         pins: file.pins,
+        is_left: file.invalid.is_some(),
         ..*group
     };
     set_levels(console, &mut report, entries.as_slice())?;
@@ -1400,6 +1421,7 @@ fn check_text<O: Write, E: Write>(
         group.levels = report.levels;
     }
     apply(console.alloc, &mut report.levels, file.settings)?;
+    report_byte(console, &mut report, file)?;
     check_entries(console, &mut report, file, entries.as_slice())?;
     console.end_part()?;
     Ok(report.status)
@@ -1413,9 +1435,14 @@ fn check_file<R: Input + Files + AllocGlobal, O: Write, E: Write>(
     file: Checked<'_>,
 ) -> Result<Status, Stop> {
     match read_file(rt, console, file.path) {
-        Ok(text) => {
-            let text = text.as_str();
-            check_text(console, group, Checked { text, ..file })
+        Ok(read) => {
+            let (text, invalid) = (read.text.as_str(), read.invalid);
+            let file = Checked {
+                text,
+                invalid,
+                ..file
+            };
+            check_text(console, group, file)
         }
         Err(Stop::Ended(status)) => Ok(status),
         Err(stop) => Err(stop),
@@ -1505,6 +1532,7 @@ fn check_group<R: Runtime + AllocGlobal, O: Write, E: Write>(
             path,
             shown: shown.as_str(),
             text: "",
+            invalid: None,
             is_root: is_root(group, place),
             is_own: place < group.own,
             unmatched: group.unmatched.as_slice(),
@@ -1539,6 +1567,7 @@ fn check_rewritten<R: Runtime + AllocGlobal, O: Write, E: Write>(
             path: file.path.as_str(),
             shown: file.path.as_str(),
             text: file.new.as_str(),
+            invalid: file.invalid,
             is_root: is_root(group, place),
             is_own: place < group.own,
             unmatched: group.unmatched.as_slice(),

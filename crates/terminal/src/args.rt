@@ -430,9 +430,9 @@ Examples:
   ranges check --exclude fixtures --files .
 
 Rules: any-zero, contained-alternative, disjoint-sections, dropped-alternative, duplicate-key, empty-alternative,
-ignored-comparator, no-match, npm-differs, odd-engine, odd-override, odd-path, odd-section, odd-tag, odd-version, other-version,
-unmatched-workspace, unread-range. Unless you set them, these are off: meta-without-range, not-canonical, pre-release-bound;
-odd-override is at the level error, and each other rule at the level warn, which prints a warning.
+ignored-comparator, no-match, not-utf8, npm-differs, odd-engine, odd-override, odd-path, odd-section, odd-tag, odd-version,
+other-version, unmatched-workspace, unread-range. Unless you set them, these are off: meta-without-range, not-canonical,
+pre-release-bound; odd-override is at the level error, and each other rule at the level warn, which prints a warning.
 
 Exit status: 0 no error; 1 an error, or with --strict a warning, or --dry-run prints a change; 2 unknown arguments;
 3 a file can't be read or written; 5 out of memory; 6 output can't be written. Only other commands end with 4.",
