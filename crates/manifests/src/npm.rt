@@ -361,7 +361,11 @@ fn is_host(place: &str, is_of_web: bool) -> bool {
     let (host, port) = rest.split_once(':').unwrap_or((rest, ""));
     let is_port = port.is_empty() || is_number(port) && port.parse::<u16>().is_ok();
     let is_sign = |c: char| c.is_whitespace() || "<>^|[]".contains(c);
-    let is_there = host.is_empty() != address.is_empty();
+    let is_there = if address.is_empty() {
+        !host.is_empty()
+    } else {
+        host.is_empty() && is_address(address)
+    };
     is_port && is_there && !host.contains(is_sign) && !(is_of_web && has_bad_escape(host))
 }
 
@@ -401,6 +405,58 @@ fn has_bad_host(text: &str) -> bool {
     (is_of_web || !place.is_empty()) && !is_known_host(host) && !is_host(place, is_of_web)
 }
 
+// Whether the text is the address of a host in IPv6.
+fn is_address(text: &str) -> bool {
+    let is_part = |c: char| c.is_ascii_hexdigit() || matches!(c, ':' | '.');
+    text.contains(':') && text.chars().all(is_part)
+}
+
+// Whether the text is a drive, which JavaScript takes for the front of a path.
+fn is_drive(text: &str) -> bool {
+    let is_letter = |c: char| c.is_ascii_alphabetic();
+    text.len() == 2 && text.starts_with(is_letter) && text.ends_with([':', '|'].as_slice())
+}
+
+// Whether the URL of a file may have this host. JavaScript drops tabs and the ends of lines.
+fn is_host_of_file(host: &str) -> bool {
+    if let Some(behind) = host.strip_prefix('[') {
+        return is_address(behind.strip_suffix(']').unwrap_or(""));
+    }
+    let is_dropped = |c: char| matches!(c, '\t' | '\n' | '\r');
+    let is_sign = |c: char| c.is_whitespace() || c.is_control() || "<>^|@:[]".contains(c);
+    !host.contains(|c: char| is_sign(c) && !is_dropped(c))
+}
+
+// The host in the path or the URL of a file: what stands behind two slashes, up to the next.
+fn host_of_file(path: &str) -> &str {
+    let slashes = ['/', '\\'].as_slice();
+    let path = path.trim_end_matches(|c: char| c <= ' ');
+    let behind = path.strip_prefix(slashes).unwrap_or("");
+    let place = behind.strip_prefix(slashes).unwrap_or("");
+    let ends = ['/', '\\', '?', '#'].as_slice();
+    place.split(ends).next().unwrap_or("")
+}
+
+// Why npm refuses the path or the URL of a file, if it does.
+fn refusal_of_file(text: &str) -> Option<&'static str> {
+    let url = text.strip_prefix("file:");
+    if url.is_none() && !text.starts_with('/') {
+        return None;
+    }
+    let host = host_of_file(url.unwrap_or(text));
+    let is_taken = url.is_some() || host.is_empty() || host.eq_ignore_ascii_case("localhost");
+    if !is_drive(host) && !(is_taken && is_host_of_file(host)) {
+        return Some("npm refuses it: a host stands behind `//`; begin a path with `/` or `./`");
+    }
+    let rest = text.trim_start_matches('/');
+    let slashes = text.len().saturating_sub(rest.len());
+    let is_back = matches!(rest.split('/').next(), Some("." | ".."));
+    if url.is_none() && is_back && slashes <= 3 {
+        return Some("npm refuses it: write `file:` before the path");
+    }
+    None
+}
+
 // Whether some `%` isn't followed by two hexadecimal digits.
 fn has_bad_escape(text: &str) -> bool {
     let is_digit = |c: Option<char>| c.is_some_and(|c| c.is_ascii_hexdigit());
@@ -429,6 +485,9 @@ fn has_refused_escape(text: &str) -> bool {
 pub fn source_of(text: &str) -> Source<'_> {
     if has_refused_escape(text) {
         return Source::Refused("npm refuses it: two hexadecimal digits follow a `%`");
+    }
+    if let Some(message) = refusal_of_file(text) {
+        return Source::Refused(message);
     }
     if is_path(text) {
         let is_number = |c: char| c.is_ascii_digit();
