@@ -117,7 +117,7 @@ def command(name, description):
 
 def rules():
     """The rules, each with what the page says of it."""
-    return dict(re.findall(r"^### ([a-z-]+)\n\n((?:.+\n)+)", PAGE.read_text(), re.M))
+    return dict(re.findall(r"^### ([a-z0-9-]+)\n\n((?:.+\n)+)", PAGE.read_text(), re.M))
 
 
 def statuses():

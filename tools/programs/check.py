@@ -424,7 +424,7 @@ def examples(page):
 
 def sarif():
     """The SARIF of a file with an error, a warning and a notice has what its schema requires, each result a rule of docs/RANGES.md."""
-    rules = re.findall(r"^### ([a-z-]+)$", (TOP / "docs/RANGES.md").read_text(), re.M)
+    rules = re.findall(r"^### ([a-z0-9-]+)$", (TOP / "docs/RANGES.md").read_text(), re.M)
     given = '{\n"dependencies": {"\u00e4 b": "^1.2.3.4", "c": "^0", "d": "1"},\n"engines": {"e": "\\u22651.2.3.4"}\n}'
     row = {"arguments": ["check", "--sarif", "--canonical", "a b.json"], "files": {"a b.json": given}}
     log = json.loads(run(RANGES, row)[0])
@@ -456,7 +456,7 @@ def sarif():
 
 def rules():
     """`ranges check --help` names each rule of docs/RANGES.md, and those that are off where nothing sets them."""
-    wanted = re.findall(r"^### ([a-z-]+)$", (TOP / "docs/RANGES.md").read_text(), re.M)
+    wanted = re.findall(r"^### ([a-z0-9-]+)$", (TOP / "docs/RANGES.md").read_text(), re.M)
     told = run(RANGES, {"arguments": ["check", "--help"]})[0].partition("Rules: ")[2]
     on, _, rest = told.partition(". Unless you set them, these are off: ")
     off = rest.partition(";")[0]

@@ -555,7 +555,8 @@ struct Waiting {
 }
 
 // What is said of a folder in which a name isn't valid UTF-8. The standard library doesn't tell that name.
-const PASSED_OVER: &str = "passed over a name that isn't valid UTF-8, and what is below it; if it's a folder, run ranges there";
+const PASSED_OVER: &str =
+    "passed over a name that isn't valid UTF-8, and what is below it; if it's a folder, run ranges there";
 
 // Lists a folder, or reports that it can't be read. A note says whether a name in it can't: most such names are no manifests.
 fn listed<R: Runtime + AllocGlobal, O: Write, E: Write>(

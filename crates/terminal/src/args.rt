@@ -440,9 +440,7 @@ Exit status: 0 no error; 1 an error, or with --strict a warning, or --dry-run pr
     Entry {
         name: "asked",
         about: "Print the packages that several manifests ask for, and each range",
-        arguments: &[
-            JSON, PRE, EXCLUDE, NO_IGNORE, QUIET, FOLDER, NAMED, APART,
-        ],
+        arguments: &[JSON, PRE, EXCLUDE, NO_IGNORE, QUIET, FOLDER, NAMED, APART],
         examples: "\
 Examples:
   ranges asked
