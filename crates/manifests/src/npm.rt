@@ -1182,6 +1182,25 @@ pub fn number_behind_zero(text: &str) -> Option<&str> {
     None
 }
 
+/// Why npm refuses the range behind the name in a key of overrides whatever the tree has, if it does.
+pub fn refusal_of_key_range(text: &str) -> Option<&'static str> {
+    if is_foreign(text) {
+        return Some("npm refuses it: it doesn't know this protocol");
+    }
+    match source_of(text) {
+        Source::Refused(message) => Some(message),
+        // npm reads the range of a repository's tags only when it fetches one.
+        Source::Registry(range)
+            if range.len() == text.len() || behind_protocol(text, "npm:").is_some() => {
+            match read_range(range).reading {
+                Reading::Refused | Reading::TooLarge => Some("npm refuses it: Invalid tag name"),
+                Reading::Range | Reading::Tag => None,
+            }
+        }
+        Source::Registry(_) | Source::Elsewhere | Source::Odd(_) => None,
+    }
+}
+
 /// Why npm refuses a key of overrides that names no package. It reads a key without a slash as a range or a tag.
 pub fn refusal_of_key(key: &str) -> &'static str {
     let (name, _) = name_and_range(key);

@@ -600,10 +600,10 @@ fn check_key_part<O: Write, E: Write>(
     if is_range_of_key(console.alloc, range, is_of_npm)? {
         return Ok(());
     }
-    let message = if is_of_npm {
-        "npm refuses it: Invalid comparator"
-    } else {
-        "not a version range"
+    let message = match npm::refusal_of_key_range(range) {
+        _ if !is_of_npm => "not a version range",
+        Some(message) => message,
+        None => "npm refuses it: Invalid comparator",
     };
     let errors = errors_at_end(console.alloc, Flavour::Npm, text, range)?;
     report.add_with(console, entry, Cause::Refused, message, &errors)
@@ -933,7 +933,7 @@ fn unread_by(manager: Option<Manager>, section: &str) -> Option<&'static str> {
 }
 
 // Whether npm reads an override only if the tree has its package: for what the manifest itself asks for, npm doesn't read it. A key that names
-// no package is refused in any case.
+// no package is refused in any case, and so is one that npm can't read.
 fn may_be_unread(
     alloc: Global,
     names: &Names<'_>,
@@ -946,6 +946,10 @@ fn may_be_unread(
         _ => (entry.name.as_str(), entry.depth),
     };
     let (name, range) = name_and_range(key);
+    let is_key = matches!(entry.kind, Kind::Override(_));
+    if is_key && npm::refusal_of_key_range(range).is_some() {
+        return Ok(false);
+    }
     let is_range = range.is_empty() || is_range_of_key(alloc, range, true)?;
     let is_read = known.is_linked(name) || names.overrides.is_read(alloc, key, is_range)?;
     Ok(names_package(name) && !(depth == 1 && is_read))

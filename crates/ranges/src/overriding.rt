@@ -136,13 +136,31 @@ impl<'e> Overrides<'e> {
         let Some(direct) = self.direct.get(name) else {
             return Ok(false);
         };
-        let is_compared = match source_of(direct.text.as_str()) {
+        let asked = direct.text.as_str();
+        let is_compared = match source_of(asked) {
             Source::Registry(asked) if read_range(asked).reading == Reading::Range => {
                 !is_range || refused_part(asked).is_some()
             }
             _ => false,
         };
-        Ok(is_compared || is_range && counts(alloc, range, direct.text.as_str())?)
+        // Where npm can't compare what is asked for, it takes the override, unless that asks for the same.
+        let is_taken = is_range || self.other_for(key, range, asked).is_some();
+        Ok(is_compared || is_taken && counts(alloc, range, asked)?)
+    }
+
+    // What a key with this range stands for, if that isn't what the manifest asks for.
+    fn other_for<'t>(&'t self, key: &str, range: &'t str, asked: &str) -> Option<&'t str> {
+        let value = match self.values.get(key) {
+            Some(value) => value.text.as_str(),
+            // npm takes the range of the key.
+            None => range,
+        };
+        let value = self.meant(value)?;
+        if matches!(value, "" | "*") || value == asked {
+            None
+        } else {
+            Some(value)
+        }
     }
 
     /// What the manifest itself asks for by this name, if no key before counts for it.
@@ -184,17 +202,11 @@ impl<'e> Overrides<'e> {
         range: &str,
         asked: &str,
     ) -> Result<bool, AllocError> {
-        let value = match self.values.get(key) {
-            Some(value) => value.text.as_str(),
-            // npm takes the range of the key.
-            None => range,
-        };
-        let Some(value) = self.meant(value) else {
-            return Ok(false);
-        };
-        let is_same = matches!(value, "" | "*") || value == asked;
         // npm asks again with the value, and takes the override back if the key doesn't count for that.
-        Ok(!is_same && counts(alloc, range, value)?)
+        match self.other_for(key, range, asked) {
+            Some(value) => counts(alloc, range, value),
+            None => Ok(false),
+        }
     }
 
     /// Whether this key asks for something else in place of the workspace that it names, which npm refuses.
