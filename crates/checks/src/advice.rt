@@ -40,8 +40,32 @@ fn is_unmatched(alloc: Global, range: &str) -> Result<bool, AllocError> {
     }
 }
 
+// What is meant by a comma at the end of a version, or in place of a `.`, if that is what stands in a range.
+fn hint_at_comma(range: &str) -> Option<&'static str> {
+    let range = range.trim();
+    let numbers = range.trim_start_matches(|c: char| matches!(
+        c,
+        '^' | '~' | '<' | '>' | '=' | 'v'
+    ));
+    let bare = numbers.trim_matches(',');
+    let is_number = |part: &str| !part.is_empty() && part.chars().all(|c| c.is_ascii_digit());
+    let is_zero = |part: &str| part == "0";
+    // Without an operator or a zero it may be a list of versions.
+    let is_one = numbers.len() < range.len() || bare.split(',').any(is_zero);
+    if bare.len() < numbers.len() && !has_separators(bare) && !bare.contains(char::is_whitespace) {
+        Some(": leave the `,` out")
+    } else if is_one && bare.contains(',') && bare.split(',').all(is_number) {
+        Some(": write `.` for `,`")
+    } else {
+        None
+    }
+}
+
 /// What to write in place of a separator in a range: `||` for a comma where no version matches all that it separates.
 pub fn hint_of(alloc: Global, range: &str) -> Result<&'static str, AllocError> {
+    if let Some(hint) = hint_at_comma(range) {
+        return Ok(hint);
+    }
     for part in range.split("||") {
         if has_separators(part) && is_unmatched(alloc, part)? {
             return Ok(if part.contains(',') {
