@@ -1168,6 +1168,19 @@ pub fn number_behind_wildcard(text: &str) -> Option<(&str, &str)> {
     None
 }
 
+/// Whether an identifier is empty in the pre-release or the build of a version in the text.
+pub fn has_empty_identifier(text: &str) -> bool {
+    for word in text.split(is_space) {
+        let start = word.find(['-', '+'].as_slice()).unwrap_or(word.len());
+        let behind = word.get(start..).unwrap_or("");
+        let is_empty = behind.contains("..") || behind.contains(".+");
+        if is_empty || behind.ends_with(['.', '+'].as_slice()) {
+            return true;
+        }
+    }
+    false
+}
+
 /// A number of a pre-release with a zero in front, which node-semver refuses.
 pub fn number_behind_zero(text: &str) -> Option<&str> {
     for word in text.split([' ', '\t', '|', ','].as_slice()) {

@@ -82,6 +82,8 @@ fn refuse<O: Write, E: Write>(
         excess(range)
     } else if has_left_out(pieces) {
         return Ok(());
+    } else if npm::has_empty_identifier(range) {
+        "npm refuses it: a part of the pre-release or of the build is empty"
     } else {
         "npm refuses it"
     };
