@@ -419,6 +419,8 @@ fn of_range(piece: &str, mistake: Mistake<'_>, has_hyphen: bool) -> Option<&'sta
         Some("write `1 - 2` for the versions between 1 and 2")
     } else if piece.contains("!=") || mistake.next == '\u{2260}' || is_not {
         Some("no operator means `not`: write two ranges, such as `<1.2 || >1.2`")
+    } else if piece.starts_with("[object ") {
+        Some("a script wrote an object in place of a range")
     } else if piece.starts_with('[') || matches!(mistake.next, '[' | ']') {
         Some("ranges have no brackets: write `>=` and `<`")
     } else if piece.contains('(') || mistake.next == ')' {
