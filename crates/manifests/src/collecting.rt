@@ -506,7 +506,8 @@ impl Collector {
     /// Takes a key, which stands between these indexes.
     pub fn take_key(&mut self, key: String, start: usize, end: usize) -> Result<(), AllocError> {
         self.is_lockfile |= self.path.is_empty() && key.as_str() == "lockfileVersion";
-        let is_repeated = self.drop_earlier(key.as_str())?;
+        // A key for comments may stand several times.
+        let is_repeated = self.drop_earlier(key.as_str())? && key.as_str() != "//";
         self.add_override(key.as_str(), start, end)?;
         self.key = Some(key);
         self.add_key(start)?;
