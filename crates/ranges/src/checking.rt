@@ -850,6 +850,8 @@ struct Names<'e> {
     required: HashSet<&'e str>,
     optional: HashSet<&'e str>,
     overrides: Overrides<'e>,
+    /// Whether `catalog` has packages, and no package of `catalogs.default` was checked so far.
+    has_catalog: bool,
     /// The name of the file's own package, which may ask for an older version of itself.
     own: &'e str,
     /// Whether the package is private, and so isn't published.
@@ -1105,6 +1107,13 @@ fn check_relations<'e, O: Write, E: Write>(
                 let finding = Finding::new(Cause::Refused, message.as_str());
                 report.add(console, entry, finding)?;
             }
+        }
+        "catalogs" if !file.is_of_npm() && entry.object.as_str() == "default" => {
+            if names.has_catalog {
+                let message = "pnpm refuses it: `catalog` and `catalogs.default` are one catalog";
+                report.add(console, entry, Finding::new(Cause::Refused, message))?;
+            }
+            names.has_catalog = false;
         }
         _ => (),
     }
@@ -1372,6 +1381,7 @@ fn check_entries<O: Write, E: Write>(
         required: names_in(console.alloc, entries, "dependencies")?,
         optional: names_in(console.alloc, entries, "optionalDependencies")?,
         overrides: Overrides::of(console.alloc, entries)?,
+        has_catalog: entries.iter().any(|entry| entry.section == "catalog"),
         own: own_name(entries),
         is_private: is_private(report.text, entries),
         has_packages: entries.iter().any(|entry| entry.kind == Kind::Packages),
