@@ -1214,13 +1214,19 @@ fn check_asked<'e, O: Write, E: Write>(
     let is_taken = is_of_other && npm::is_refused_ssh(entry.text.as_str());
     let is_of_npm = entry.section == "overrides" && file.is_of_npm() && !names.is_of_other();
     let is_refused = is_of_npm && !refers(entry) && check_compared(console, report, entry)?;
+    let aside = report.aside;
     // npm links a workspace of the root whatever that asks for by its name.
-    let is_linked = is_asked_by_name(entry)
-        && file.linked.contains(entry.name.as_str())
-        && npm::is_refused(entry.text.as_str());
-    if !is_taken && !is_refused && !is_linked {
+    let is_linked = is_asked_by_name(entry) && file.linked.contains(entry.name.as_str());
+    if is_linked && npm::is_refused(entry.text.as_str()) {
+        report.aside = aside.or(Some(Aside {
+            rule: Rule::UnreadRange,
+            why: "npm links its workspace instead",
+        }));
+    }
+    if !is_taken && !is_refused {
         check_dependency(console, report, entry)?;
     }
+    report.aside = aside;
     check_relations(console, report, names, file, entry)
 }
 
