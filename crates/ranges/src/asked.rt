@@ -365,6 +365,10 @@ fn print<O: Write, E: Write>(
         (None, None) if package.askers.is_empty() => {
             print_line(out, format_args!("{name}: nobody asks by a range"))?;
         }
+        (None, None) if package.reqs.len() == 1 => {
+            let range = Shown(package.range(0));
+            print_line(out, format_args!("{name}: no version matches \"{range}\""))?;
+        }
         (None, None) => print_line(out, format_args!("{name}: no version matches all"))?,
     }
     for asker in package.askers.iter().chain(package.others.iter()) {
