@@ -7,7 +7,8 @@ use answers::questions::matches;
 use deno_semver::PreRelease;
 use manifests::entry::Entry;
 use manifests::npm::{
-    Source, as_read, ends_in_key, is_package_name, is_refused, name_and_range, renamed, source_of,
+    Reading, Source, as_read, ends_in_key, is_package_name, is_refused, name_and_range, read_range,
+    renamed, source_of,
 };
 use manifests::sections::Kind;
 use semver_req::common::values::Flavour;
@@ -328,8 +329,13 @@ impl Known {
         Ok(Some(message))
     }
 
-    /// The version of a workspace that a manifest asks a registry for by its name, if the range doesn't match that version.
-    pub fn other_version(&self, alloc: Global, entry: &Entry) -> Result<Option<&str>, AllocError> {
+    /// The version of a workspace that a manifest asks a registry for by its name, if the range doesn't match that version, or is a tag.
+    pub fn other_version(
+        &self,
+        alloc: Global,
+        entry: &Entry,
+        is_root: bool,
+    ) -> Result<Option<&str>, AllocError> {
         let (name, text) = (entry.name.as_str(), entry.text.as_str());
         let is_known = self.workspace != Workspace::None && self.has_workspace(name);
         let Source::Registry(range) = source_of(text) else {
@@ -344,10 +350,17 @@ impl Known {
             "" | "*" => PreRelease::Admitted,
             _ => PreRelease::Restricted,
         };
+        let version = self.versions.get(name);
         let Some(read) = as_read(alloc, range)? else {
-            return Ok(None);
+            // pnpm links a workspace by a tag, and npm one of the root.
+            let is_other = self.workspace == Workspace::Package && !is_root;
+            let is_tag = read_range(range).reading == Reading::Tag;
+            return Ok(match version {
+                Some(version) if is_other && is_tag => Some(version.as_str()),
+                _ => None,
+            });
         };
-        match self.versions.get(name) {
+        match version {
             Some(version) if !is_match(alloc, pre_release, read.as_str(), version.as_str())? => {
                 Ok(Some(version.as_str()))
             }

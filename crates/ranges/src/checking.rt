@@ -1026,9 +1026,12 @@ fn check_sibling<O: Write, E: Write>(
     console: &mut Console<O, E>,
     report: &mut Report<'_>,
     entry: &Entry,
-    known: &Known,
+    file: Checked<'_>,
 ) -> Result<(), Stop> {
-    let Some(version) = known.other_version(console.alloc, entry)? else {
+    let Some(version) = file
+        .known
+        .other_version(console.alloc, entry, file.is_root)?
+    else {
         return Ok(());
     };
     let name = entry.name.as_str();
@@ -1090,7 +1093,7 @@ fn check_relations<'e, O: Write, E: Write>(
                 report.add(console, entry, finding)?;
             }
             if names.own != entry.name.as_str() {
-                check_sibling(console, report, entry, file.known)?;
+                check_sibling(console, report, entry, file)?;
             }
         }
         "overrides" | "pnpm" if file.is_root => {
