@@ -168,8 +168,8 @@ pub const RULES: [About; COUNT] = [
         rule: Rule::OddSection,
         name: "odd-section",
         level: Level::Warning,
-        finds: "A section of package.json isn't an object, or an override is neither a string nor an object. npm usually passes over either.",
-        help: "Write an object of names and ranges, as in `{\"react\": \"^18\"}`.",
+        finds: "A section of package.json isn't an object, or its name is misspelled, or an override is neither a string nor an object. npm usually passes over these.",
+        help: "Write an object of names and ranges, as in `{\"react\": \"^18\"}`, and the name of the section as npm has it.",
     },
     About {
         rule: Rule::OddTag,

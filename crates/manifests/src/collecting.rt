@@ -4,6 +4,7 @@ use crate::entry::Entry;
 use crate::sections::{ITEM, Kind, Place, place_of};
 use std::alloc::{AllocError, Global};
 use std::collections::HashMap;
+use terminal::hints::is_nearly;
 
 /// What a value is.
 #[derive(Clone, Copy, PartialEq, Eq)]
@@ -26,6 +27,27 @@ pub enum Format {
     /// pnpm-workspace.yaml.
     Yaml,
 }
+
+// Sections of package.json, and what is said of an object whose key is nearly the name of one.
+const MISSPELLED: [(&str, &str); 5] = [
+    (
+        "dependencies",
+        "npm passes over it: is `dependencies` meant?",
+    ),
+    (
+        "devDependencies",
+        "npm passes over it: is `devDependencies` meant?",
+    ),
+    (
+        "optionalDependencies",
+        "npm passes over it: is `optionalDependencies` meant?",
+    ),
+    (
+        "peerDependencies",
+        "npm passes over it: is `peerDependencies` meant?",
+    ),
+    ("overrides", "npm passes over it: is `overrides` meant?"),
+];
 
 // Whether patterns of workspaces may stand at a place, or one.
 fn has_patterns(place: Place) -> bool {
@@ -286,6 +308,20 @@ impl Collector {
         }
     }
 
+    // What is said of the next value, if its key is nearly the name of a section of package.json.
+    fn misspelled(&self) -> Option<&'static str> {
+        let key = self.key.as_deref().unwrap_or("");
+        if self.format != Format::Package || self.open.len() != 1 {
+            return None;
+        }
+        for (name, message) in &MISSPELLED {
+            if key != *name && (key.eq_ignore_ascii_case(name) || is_nearly(key, name)) {
+                return Some(*message);
+            }
+        }
+        None
+    }
+
     // What is said of a value of another shape where the next value is, if that is a setting, or a section in which npm finds names.
     fn misplaced_here(&self, shape: Shape, place: Place) -> Option<Kind> {
         let key = self.key.as_deref().unwrap_or("");
@@ -374,6 +410,11 @@ impl Collector {
             return Ok(None);
         }
         let place = self.place();
+        if shape == Shape::Object
+            && let Some(message) = self.misspelled()
+        {
+            self.add_kind(index, Kind::OddSection(message), "")?;
+        }
         let is_there = match (shape, place.text) {
             (Shape::Text, Some(text)) => return Ok(Some(text)),
             (Shape::Null, Some((Kind::Name, _))) => return Ok(None),

@@ -567,20 +567,18 @@ pub fn url_behind(reference: &str) -> Option<&'static str> {
 
 const LATEST: &str = "latest";
 
-// Whether the text is `latest` with one letter too many, missing, or wrong, or with two neighbours swapped.
-fn is_nearly_latest(tag: &str) -> bool {
+/// Whether a text is a word with one letter too many, missing, or wrong, or with two neighbours swapped.
+pub fn is_nearly(text: &str, word: &str) -> bool {
     let ahead = |(a, b): &(u8, u8)| a == b;
-    let front = tag.bytes().zip(LATEST.bytes()).take_while(ahead).count();
-    let tail = (tag.bytes().rev())
-        .zip(LATEST.bytes().rev())
+    let front = text.bytes().zip(word.bytes()).take_while(ahead).count();
+    let tail = (text.bytes().rev())
+        .zip(word.bytes().rev())
         .take_while(ahead)
         .count();
-    let shorter = tag.len().min(LATEST.len());
+    let shorter = text.len().min(word.len());
     let tail = tail.min(shorter.saturating_sub(front));
-    let own = tag.as_bytes().get(front..tag.len().saturating_sub(tail));
-    let other = LATEST
-        .as_bytes()
-        .get(front..LATEST.len().saturating_sub(tail));
+    let own = text.as_bytes().get(front..text.len().saturating_sub(tail));
+    let other = word.as_bytes().get(front..word.len().saturating_sub(tail));
     match (own, other) {
         (Some([_]), Some([_] | [])) | (Some([]), Some([_])) => true,
         (Some([a, b]), Some([c, d])) => a == d && b == c,
@@ -590,7 +588,7 @@ fn is_nearly_latest(tag: &str) -> bool {
 
 /// What may be meant by a tag that looks like a typing mistake: by `latest`, by a version, or by a range.
 pub fn question(tag: &str) -> Option<&'static str> {
-    if is_nearly_latest(tag) || tag != LATEST && tag.eq_ignore_ascii_case(LATEST) {
+    if is_nearly(tag, LATEST) || tag != LATEST && tag.eq_ignore_ascii_case(LATEST) {
         return Some("is `latest` meant?");
     }
     if matches!(tag, "undefined" | "null" | "NaN" | "true" | "false") {
