@@ -388,8 +388,14 @@ fn behind_slashes(text: &str) -> Option<&str> {
     None
 }
 
+// A URL without the spaces and control characters behind it, which JavaScript drops.
+fn without_spaces_behind(url: &str) -> &str {
+    url.trim_end_matches(|c: char| c <= ' ')
+}
+
 // Whether a text is a URL whose host or port npm doesn't take.
 fn has_bad_host(text: &str) -> bool {
+    let text = without_spaces_behind(text);
     let (url, is_of_web) = match behind_web(text) {
         Some(url) => (url.trim_start_matches(['/', '\\'].as_slice()), true),
         None => (behind_slashes(text).unwrap_or(""), false),
@@ -430,7 +436,7 @@ fn is_host_of_file(host: &str) -> bool {
 // The host in the path or the URL of a file: what stands behind two slashes, up to the next.
 fn host_of_file(path: &str) -> &str {
     let slashes = ['/', '\\'].as_slice();
-    let path = path.trim_end_matches(|c: char| c <= ' ');
+    let path = without_spaces_behind(path);
     let behind = path.strip_prefix(slashes).unwrap_or("");
     let place = behind.strip_prefix(slashes).unwrap_or("");
     let ends = ['/', '\\', '?', '#'].as_slice();
