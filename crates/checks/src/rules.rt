@@ -161,8 +161,8 @@ pub const RULES: [About; COUNT] = [
         rule: Rule::OddPath,
         name: "odd-path",
         level: Level::Warning,
-        finds: "npm takes a string with a `/` that begins like a range for a folder, or for a GitHub repository.",
-        help: "Leave the `/` out if a range is meant, and begin the path of a folder with `./`.",
+        finds: "npm takes a string with a `/` that looks like a range, a URL or a repository for a folder or something else.",
+        help: "Leave the `/` out if a range is meant, begin the path of a folder with `./`, and write the whole URL of a repository.",
     },
     About {
         rule: Rule::OddSection,

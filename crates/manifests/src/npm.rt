@@ -97,11 +97,14 @@ fn behind_name(text: &str) -> Option<&str> {
     Some(range)
 }
 
+// What a range begins with, if not with a number.
+const OPERATOR_SIGNS: &[char] = &['^', '~', '<', '>', '=', '*'];
+
 // Whether a text with a `/` looks like a range: it begins as one, with an operator or with numbers.
 fn looks_like_range(text: &str) -> bool {
     let front = text.split(['/', ' '].as_slice()).next().unwrap_or("");
     let is_numbers = front.contains('.') && front.chars().all(|c| c.is_ascii_digit() || c == '.');
-    is_numbers || text.starts_with(['^', '~', '<', '>', '=', '*'].as_slice())
+    is_numbers || text.starts_with(OPERATOR_SIGNS)
 }
 
 // Where the name ends of a name with a range behind an `@`.
@@ -324,7 +327,7 @@ pub fn is_remote(text: &str) -> bool {
 // What stands behind the `#` of a repository: parts with `::` between neighbours, of which one may name a commit or a range, and one a path.
 fn of_repository(behind: &str) -> Source<'_> {
     let mut range = None;
-    let (mut has_version, mut has_path) = (false, false);
+    let (mut has_version, mut has_path, mut is_odd) = (false, false, false);
     for part in behind.split("::") {
         match part.split_once(':') {
             None if part.is_empty() => (),
@@ -338,11 +341,14 @@ fn of_repository(behind: &str) -> Source<'_> {
                 );
             }
             Some(("semver", text)) => (has_version, range) = (true, Some(text)),
-            None => has_version = true,
+            None => (has_version, is_odd) = (true, part.starts_with(OPERATOR_SIGNS)),
             Some(_) => (),
         }
     }
     match range {
+        None if is_odd => Source::Odd(
+            "npm takes it for the name of a branch or a tag: write `#semver:` before a range",
+        ),
         // An escape stands for another character, and npm drops what follows a second colon.
         Some(range) if behind.ends_with(range) && !range.contains(['%', ':'].as_slice()) => {
             Source::Registry(range)
@@ -487,6 +493,26 @@ fn has_refused_escape(text: &str) -> bool {
     (is_file || is_named) && has_bad_escape(path)
 }
 
+// What a text is whose first `/` has these texts before and behind it, and that may be the path of a folder or the name of a repository.
+fn of_folder<'t>(text: &str, front: &str, rest: &str) -> Source<'t> {
+    let place = text.split('#').next().unwrap_or("");
+    if is_repository(place) {
+        Source::Elsewhere
+    } else if text.contains("://") {
+        Source::Odd("npm reads it as a folder: it doesn't know the protocol")
+    } else if is_known_host(front) {
+        Source::Odd("npm reads it as a folder: write `https://` before it for a repository")
+    } else if place.len() < text.len() && place.ends_with(is_space) {
+        Source::Odd("npm reads it as a folder: leave out the space before `#`")
+    } else if rest.contains('@') && !rest.contains('/') && !front.starts_with('@') {
+        Source::Odd(
+            "npm reads it as a folder: the tag of a repository follows `#`, and a range `#semver:`",
+        )
+    } else {
+        Source::Elsewhere
+    }
+}
+
 /// Where a dependency comes from, by its text. The protocols of other package managers are known as well.
 pub fn source_of(text: &str) -> Source<'_> {
     if has_refused_escape(text) {
@@ -552,7 +578,7 @@ pub fn source_of(text: &str) -> Source<'_> {
     }
     match text.split_once('/') {
         None => Source::Registry(text),
-        Some(_) if !looks_like_range(text) => Source::Elsewhere,
+        Some((front, rest)) if !looks_like_range(text) => of_folder(text, front, rest),
         Some((_, rest)) if rest.contains('/') || text.contains(' ') || rest.is_empty() => {
             Source::Odd("npm reads it as a folder")
         }
