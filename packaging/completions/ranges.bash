@@ -7,16 +7,16 @@ _ranges() {
         --color) COMPREPLY=($(compgen -W "auto always never" -- "$word")); return ;;
         -g|--grammar) COMPREPLY=($(compgen -W "npm normalized strict" -- "$word")); return ;;
         --base) COMPREPLY=($(compgen -W "0 1 none" -- "$word")); return ;;
-        --rule) COMPREPLY=($(compgen -S = -W "any-zero contained-alternative disjoint-sections dropped-alternative duplicate-key empty-alternative ignored-comparator meta-without-range no-match not-canonical npm-differs odd-engine odd-override odd-path odd-section odd-tag odd-version other-version pre-release-bound unmatched-workspace unread-range" -- "$word")); compopt -o nospace 2>/dev/null; return ;;
-        any-zero|contained-alternative|disjoint-sections|dropped-alternative|duplicate-key|empty-alternative|ignored-comparator|meta-without-range|no-match|not-canonical|npm-differs|odd-engine|odd-override|odd-path|odd-section|odd-tag|odd-version|other-version|pre-release-bound|unmatched-workspace|unread-range) COMPREPLY=($(compgen -W "off warn error" -- "$word")); return ;;
+        --rule) COMPREPLY=($(compgen -S = -W "any-zero contained-alternative disjoint-sections dropped-alternative duplicate-key empty-alternative ignored-comparator meta-without-range no-match not-canonical not-utf8 npm-differs odd-engine odd-override odd-path odd-section odd-tag odd-version other-version pre-release-bound unmatched-workspace unread-range" -- "$word")); compopt -o nospace 2>/dev/null; return ;;
+        any-zero|contained-alternative|disjoint-sections|dropped-alternative|duplicate-key|empty-alternative|ignored-comparator|meta-without-range|no-match|not-canonical|not-utf8|npm-differs|odd-engine|odd-override|odd-path|odd-section|odd-tag|odd-version|other-version|pre-release-bound|unmatched-workspace|unread-range) COMPREPLY=($(compgen -W "off warn error" -- "$word")); return ;;
     esac
     if [ "$COMP_CWORD" = 1 ]; then
         COMPREPLY=($(compgen -W "check asked explain canonical normal min common within overlap scans package reference filter matches best outdated simplify compare sort key increment difference coerce help --help --version" -- "$word"))
         return
     fi
     case ${COMP_WORDS[1]} in
-        check) options="--color -j --json --github --sarif -c --canonical --fix --dry-run --exclude --files -0 --null --rule --strict -q --quiet -h --help -V --version" ;;
-        asked) options="--color -j --json -p --pre --exclude -q --quiet --package --apart -h --help -V --version" ;;
+        check) options="--color -j --json --github --sarif -c --canonical --fix --dry-run --exclude --no-ignore --files -0 --null --rule --strict -q --quiet -h --help -V --version" ;;
+        asked) options="--color -j --json -p --pre --exclude --no-ignore -q --quiet --package --apart -h --help -V --version" ;;
         explain) options="--color -j --json -g --grammar -p --pre -h --help -V --version" ;;
         canonical|normal) options="--color -j --json -g --grammar -h --help -V --version" ;;
         min) options="--color -j --json -g --grammar -p --pre -q --quiet -h --help -V --version" ;;
