@@ -683,16 +683,17 @@ fn check_reference<O: Write, E: Write>(
 }
 
 // Reports that an override is in conflict with a direct dependency.
-fn check_conflict<'e, O: Write, E: Write>(
+fn check_conflict<O: Write, E: Write>(
     console: &mut Console<O, E>,
     report: &mut Report<'_>,
-    entry: &'e Entry,
-    overrides: &mut Overrides<'e>,
+    entry: &Entry,
+    overrides: &Overrides<'_>,
     known: &Known,
 ) -> Result<(), Stop> {
-    let (name, _) = name_and_range(entry.text.as_str());
+    let key = entry.text.as_str();
+    let (name, _) = name_and_range(key);
     if known.is_linked(name) {
-        if !overrides.moves_workspace(console.alloc, entry)? {
+        if !overrides.moves_workspace(key) {
             return Ok(());
         }
         let message = format!(in console.alloc;
@@ -701,18 +702,18 @@ fn check_conflict<'e, O: Write, E: Write>(
         let finding = Finding::new(Cause::Refused, message.as_str());
         return report.add(console, entry, finding);
     }
-    let asked = match overrides.asked(name) {
+    let asked = match overrides.asked(key) {
         Some(direct) => direct.text.as_str(),
         None => "",
     };
-    if incomparable(console.alloc, entry.text.as_str(), asked)?.is_some() {
+    if incomparable(console.alloc, key, asked)?.is_some() {
         let message = format!(in console.alloc;
             "npm refuses it: Invalid comparator in {name}@{asked}, a direct dependency"
         )?;
         let finding = Finding::new(Cause::Refused, message.as_str());
         return report.add(console, entry, finding);
     }
-    let Some(direct) = overrides.conflict(console.alloc, entry)? else {
+    let Some(direct) = overrides.conflict(key) else {
         return Ok(());
     };
     let (name, range) = (direct.name.as_str(), direct.text.as_str());
@@ -1069,6 +1070,21 @@ fn own_name(entries: &[Entry]) -> &str {
     }
 }
 
+// Reports the first package of `catalogs.default` if `catalog` has packages, too.
+fn check_default_catalog<O: Write, E: Write>(
+    console: &mut Console<O, E>,
+    report: &mut Report<'_>,
+    names: &mut Names<'_>,
+    entry: &Entry,
+) -> Result<(), Stop> {
+    if !names.has_catalog {
+        return Ok(());
+    }
+    names.has_catalog = false;
+    let message = "pnpm refuses it: `catalog` and `catalogs.default` are one catalog";
+    report.add(console, entry, Finding::new(Cause::Refused, message))
+}
+
 // Checks what an entry of dependencies says with others, and with what is known of the workspace.
 fn check_relations<'e, O: Write, E: Write>(
     console: &mut Console<O, E>,
@@ -1112,11 +1128,7 @@ fn check_relations<'e, O: Write, E: Write>(
             }
         }
         "catalogs" if !file.is_of_npm() && entry.object.as_str() == "default" => {
-            if names.has_catalog {
-                let message = "pnpm refuses it: `catalog` and `catalogs.default` are one catalog";
-                report.add(console, entry, Finding::new(Cause::Refused, message))?;
-            }
-            names.has_catalog = false;
+            check_default_catalog(console, report, names, entry)?;
         }
         _ => (),
     }
@@ -1246,7 +1258,9 @@ fn check_override<'e, O: Write, E: Write>(
     // Bun takes another range, too; pnpm and yarn don't read npm's overrides.
     let is_asked = file.is_root && !names.is_of_other();
     if is_asked && separator.is_empty() && entry.depth == 1 {
-        check_conflict(console, report, entry, &mut names.overrides, file.known)?;
+        // npm reads what the manifest itself asks for in any case.
+        report.aside = None;
+        check_conflict(console, report, entry, &names.overrides, file.known)?;
     }
     Ok(())
 }

@@ -10,7 +10,7 @@ use manifests::npm::{
 use manifests::sections::Kind;
 use semver_req::common::values::Flavour;
 use std::alloc::{AllocError, Global};
-use std::collections::{HashMap, HashSet};
+use std::collections::HashMap;
 
 // The sections of dependencies. Of a package in several of them npm takes the last one.
 const SECTIONS: [&str; 4] = [
@@ -25,11 +25,28 @@ const SECTIONS: [&str; 4] = [
 pub struct Overrides<'e> {
     /// What the manifest itself asks for, by the names of packages.
     direct: HashMap<&'e str, &'e Entry>,
+    /// The keys at the top of the overrides, by the names of packages.
+    keys: HashMap<&'e str, Vec<&'e str>>,
+    /// The places of these keys among those with the same name.
+    places: HashMap<&'e str, usize>,
+    /// What npm finds for what the manifest itself asks for, by the names of packages.
+    found: HashMap<&'e str, Found<'e>>,
+    /// What npm finds for workspaces with these names.
+    linked: HashMap<&'e str, Found<'e>>,
     /// What stands for a package, by the key that names it.
     values: HashMap<&'e str, &'e Entry>,
-    /// The packages that a key before counts for.
-    taken: HashSet<&'e str>,
 }
+
+// The keys that npm finds for a package. It looks for the first one that counts for what is asked for, and once more for the first one that
+// counts for what the key stands for.
+#[derive(Clone, Copy)]
+struct Found<'e> {
+    first: Option<&'e str>,
+    last: Option<&'e str>,
+}
+
+// npm asks for the folder of a workspace, for which every key counts.
+const FOLDER: &str = "file:";
 
 // The key of overrides that a text stands for at the top of them.
 fn key_of(entry: &Entry) -> Option<&str> {
@@ -83,13 +100,26 @@ fn counts(alloc: Global, range: &str, text: &str) -> Result<bool, AllocError> {
     }
 }
 
+// Whether npm stops where it compares a text with a key, since the text or, as this says, the key has no range in the strict grammar.
+fn is_incomparable(text: &str, is_range: bool) -> bool {
+    match source_of(text) {
+        Source::Registry(range) if read_range(range).reading == Reading::Range => {
+            !is_range || refused_part(range).is_some()
+        }
+        _ => false,
+    }
+}
+
 impl<'e> Overrides<'e> {
     /// The overrides among the entries of a manifest.
     pub fn of(alloc: Global, entries: &'e [Entry]) -> Result<Overrides<'e>, AllocError> {
         let mut all = Overrides {
             direct: HashMap::new(alloc),
+            keys: HashMap::new(alloc),
+            places: HashMap::new(alloc),
+            found: HashMap::new(alloc),
+            linked: HashMap::new(alloc),
             values: HashMap::new(alloc),
-            taken: HashSet::new(alloc),
         };
         if !entries
             .iter()
@@ -102,12 +132,83 @@ impl<'e> Overrides<'e> {
                 let _ = all.direct.insert(entry.name.as_str(), entry)?;
             }
         }
+        let mut names = Vec::new(alloc);
         for entry in entries {
             if let Some(key) = key_of(entry) {
                 let _ = all.values.insert(key, entry)?;
             }
+            if matches!(entry.kind, Kind::Override("")) && entry.depth == 1 {
+                all.add_key(alloc, entry.text.as_str(), &mut names)?;
+            }
+        }
+        for name in names.iter() {
+            all.look_for(alloc, *name)?;
         }
         Ok(all)
+    }
+
+    // Adds a key at the top of the overrides, and its name if it's new.
+    fn add_key(
+        &mut self,
+        alloc: Global,
+        key: &'e str,
+        names: &mut Vec<&'e str>,
+    ) -> Result<(), AllocError> {
+        let (name, _) = name_and_range(key);
+        if !self.keys.contains_key(name) {
+            names.push(name)?;
+            let _ = self.keys.insert(name, Vec::new(alloc))?;
+        }
+        if let Some(keys) = self.keys.get_mut(name) {
+            let _ = self.places.insert(key, keys.len())?;
+            keys.push(key)?;
+        }
+        Ok(())
+    }
+
+    // Looks for the keys that npm finds for a name.
+    fn look_for(&mut self, alloc: Global, name: &'e str) -> Result<(), AllocError> {
+        let direct = self.direct.get(name).copied();
+        if let Some(direct) = direct {
+            let found = self.find(alloc, name, direct.text.as_str())?;
+            let _ = self.found.insert(name, found)?;
+        }
+        let linked = self.find(alloc, name, FOLDER)?;
+        let _ = self.linked.insert(name, linked)?;
+        Ok(())
+    }
+
+    // The keys that npm finds for a name and what is asked for.
+    fn find(&self, alloc: Global, name: &str, asked: &str) -> Result<Found<'e>, AllocError> {
+        let first = self.key_for(alloc, name, asked)?;
+        let Some(key) = first else {
+            return Ok(Found { first, last: None });
+        };
+        let (_, range) = name_and_range(key);
+        let last = match self.other_for(key, range, asked) {
+            Some(value) => self.key_for(alloc, name, value)?,
+            None => None,
+        };
+        Ok(Found { first, last })
+    }
+
+    // The first key that counts for a dependency with this name and this text.
+    fn key_for(
+        &self,
+        alloc: Global,
+        name: &str,
+        text: &str,
+    ) -> Result<Option<&'e str>, AllocError> {
+        let Some(keys) = self.keys.get(name) else {
+            return Ok(None);
+        };
+        for key in keys.iter() {
+            let (_, range) = name_and_range(*key);
+            if counts(alloc, range, text)? {
+                return Ok(Some(*key));
+            }
+        }
+        Ok(None)
     }
 
     /// The name that a text refers to, if the manifest asks for no such package.
@@ -130,22 +231,44 @@ impl<'e> Overrides<'e> {
         }
     }
 
+    // The place of a key among those with its name.
+    fn place_of(&self, key: &str) -> usize {
+        self.places.get(key).copied().unwrap_or(0)
+    }
+
+    // Whether npm compares a key before it finds another one.
+    fn is_reached(&self, key: &str, found: Option<&str>) -> bool {
+        match found {
+            Some(found) => self.place_of(key) <= self.place_of(found),
+            None => true,
+        }
+    }
+
     /// Whether npm reads this key for what the manifest itself asks for, or stops since it can't compare the two ranges.
     pub fn is_read(&self, alloc: Global, key: &str, is_range: bool) -> Result<bool, AllocError> {
         let (name, range) = name_and_range(key);
         let Some(direct) = self.direct.get(name) else {
             return Ok(false);
         };
-        let asked = direct.text.as_str();
-        let is_compared = match source_of(asked) {
-            Source::Registry(asked) if read_range(asked).reading == Reading::Range => {
-                !is_range || refused_part(asked).is_some()
-            }
-            _ => false,
+        let Some(found) = self.found.get(name) else {
+            return Ok(false);
         };
+        let asked = direct.text.as_str();
         // Where npm can't compare what is asked for, it takes the override, unless that asks for the same.
         let is_taken = is_range || self.other_for(key, range, asked).is_some();
-        Ok(is_compared || is_taken && counts(alloc, range, asked)?)
+        let is_first = is_incomparable(asked, is_range) || is_taken && counts(alloc, range, asked)?;
+        if is_first && self.is_reached(key, found.first) {
+            return Ok(true);
+        }
+        // npm asks again with what the first key stands for.
+        let Some(first) = found.first else {
+            return Ok(false);
+        };
+        let (_, range) = name_and_range(first);
+        Ok(match self.other_for(first, range, asked) {
+            Some(value) => is_incomparable(value, is_range) && self.is_reached(key, found.last),
+            None => false,
+        })
     }
 
     // What a key with this range stands for, if that isn't what the manifest asks for.
@@ -163,68 +286,42 @@ impl<'e> Overrides<'e> {
         }
     }
 
-    /// What the manifest itself asks for by this name, if no key before counts for it.
-    pub fn asked(&self, name: &str) -> Option<&'e Entry> {
-        match self.direct.get(name) {
-            Some(direct) if !self.taken.contains(name) => Some(*direct),
-            _ => None,
+    /// What the manifest itself asks for, if npm compares this key with it.
+    pub fn asked(&self, key: &str) -> Option<&'e Entry> {
+        let (name, _) = name_and_range(key);
+        let direct = self.direct.get(name)?;
+        let found = self.found.get(name)?;
+        if self.is_reached(key, found.first) {
+            Some(*direct)
+        } else {
+            None
         }
+    }
+
+    // Whether this key, if it's the last that npm finds, stands for something else in place of what is asked for.
+    fn replaces(&self, key: &str, found: &Found<'e>, asked: &str) -> bool {
+        let (_, range) = name_and_range(key);
+        found.last == Some(key) && self.other_for(key, range, asked).is_some()
     }
 
     /// What the manifest itself asks for, if this key asks for something else in its place, which npm refuses.
-    pub fn conflict(
-        &mut self,
-        alloc: Global,
-        entry: &'e Entry,
-    ) -> Result<Option<&'e Entry>, AllocError> {
-        let key = entry.text.as_str();
-        let (name, range) = name_and_range(key);
-        let Some(direct) = self.asked(name) else {
-            return Ok(None);
-        };
-        let asked = direct.text.as_str();
-        if !counts(alloc, range, asked)? {
-            return Ok(None);
-        }
-        let _ = self.taken.insert(name)?;
-        Ok(if self.differs(alloc, key, range, asked)? {
-            Some(direct)
+    pub fn conflict(&self, key: &str) -> Option<&'e Entry> {
+        let (name, _) = name_and_range(key);
+        let direct = self.direct.get(name)?;
+        let found = self.found.get(name)?;
+        if self.replaces(key, found, direct.text.as_str()) {
+            Some(*direct)
         } else {
             None
-        })
-    }
-
-    // Whether a key with this range, which counts for what the manifest asks for, stands for something else.
-    fn differs(
-        &self,
-        alloc: Global,
-        key: &str,
-        range: &str,
-        asked: &str,
-    ) -> Result<bool, AllocError> {
-        // npm asks again with the value, and takes the override back if the key doesn't count for that.
-        match self.other_for(key, range, asked) {
-            Some(value) => counts(alloc, range, value),
-            None => Ok(false),
         }
     }
 
     /// Whether this key asks for something else in place of the workspace that it names, which npm refuses.
-    pub fn moves_workspace(&mut self, alloc: Global, entry: &'e Entry) -> Result<bool, AllocError> {
-        let key = entry.text.as_str();
-        let (name, range) = name_and_range(key);
-        if self.taken.contains(name) {
-            return Ok(false);
+    pub fn moves_workspace(&self, key: &str) -> bool {
+        let (name, _) = name_and_range(key);
+        match self.linked.get(name) {
+            Some(found) => self.replaces(key, found, FOLDER),
+            None => false,
         }
-        // npm asks for the folder of a workspace, for which every key counts.
-        let is_moved = self.differs(alloc, key, range, "file:")?;
-        let value = match self.values.get(key) {
-            Some(value) => value.text.as_str(),
-            None => range,
-        };
-        if is_moved || matches!(value, "" | "*") {
-            let _ = self.taken.insert(name)?;
-        }
-        Ok(is_moved)
     }
 }
