@@ -142,6 +142,110 @@ pub fn has_dropped_pre(comparator: &Comparator) -> bool {
     (is_pre(&range.start) || is_pre(&range.end)) && words.any(is_wildcard_with_pre)
 }
 
+// Whether the bound is this major version.
+fn is_major(bound: &VersionBound, major: u64) -> bool {
+    let version = &bound.version;
+    version.major == major && version.minor == 0 && version.patch == 0 && version.pre.is_empty()
+}
+
+// Whether the range is from 0.0.0 on, or from below.
+fn is_from_zero(range: &VersionRange) -> bool {
+    match &range.start {
+        RangeBound::Version(start) => {
+            start.kind == VersionBoundKind::Inclusive && is_major(start, 0)
+        }
+        RangeBound::Unbounded => true,
+    }
+}
+
+// Whether pre-releases match by a bound of the alternative.
+fn names_pre(piece: &Piece) -> bool {
+    match &piece.meaning {
+        Meaning::Range(matches) => matches.pre_of_start || matches.pre_of_end,
+        Meaning::LeftOut(_) => false,
+    }
+}
+
+/// The alternative whose pre-releases npm doesn't match, since another one is `*`, or means the same.
+pub fn beside_everything(pieces: &[Piece]) -> Option<&str> {
+    let is_there = pieces.iter().any(|piece| match &piece.meaning {
+        Meaning::Range(matches) => {
+            let range = &matches.range;
+            is_from_zero(range) && matches!(range.end, RangeBound::Unbounded)
+        }
+        Meaning::LeftOut(_) => false,
+    });
+    if !is_there {
+        return None;
+    }
+    let piece = pieces.iter().find(|piece| names_pre(piece))?;
+    Some(piece.text.as_str().trim())
+}
+
+/// Whether two bounds have the same three numbers.
+pub fn have_same_numbers(one: &RangeBound, other: &RangeBound) -> bool {
+    let (RangeBound::Version(one), RangeBound::Version(other)) = (one, other) else {
+        return false;
+    };
+    let (one, other) = (&one.version, &other.version);
+    one.major == other.major && one.minor == other.minor && one.patch == other.patch
+}
+
+// Whether a comparator is `<` or `<=` and three numbers, where npm ends as Deno does.
+fn ends_at_version(comparator: &Comparator) -> bool {
+    let text = comparator.text.as_str();
+    text.starts_with('<')
+        && text.split('.').count() == 3
+        && !text.contains(['x', 'X', '*'].as_slice())
+}
+
+// Whether a comparator ends at a version, where npm ends below all pre-releases of it, and this bound is one of these.
+fn ends_above(comparator: &Comparator, bound: &RangeBound) -> bool {
+    let end = &comparator.range.end;
+    is_pre(bound) && !is_pre(end) && have_same_numbers(bound, end) && !ends_at_version(comparator)
+}
+
+// The alternative of which npm matches no pre-releases of a version at which it ends, and Deno does.
+fn at_pre_of_end(pieces: &[Piece]) -> Option<&str> {
+    let piece = pieces.iter().find(|piece| {
+        let Meaning::Range(Matches { range, .. }) = &piece.meaning else {
+            return false;
+        };
+        let is_cut = piece.comparators.iter().any(|it| {
+            ends_above(it, &range.start) || ends_above(it, &range.end)
+        });
+        is_cut && names_pre(piece)
+    })?;
+    Some(piece.text.as_str().trim())
+}
+
+fn is_pre_of_zero(bound: &RangeBound) -> bool {
+    match bound {
+        RangeBound::Version(VersionBound { version, .. }) => {
+            let is_zero = version.major == 0 && version.minor == 0 && version.patch == 0;
+            is_zero && !version.pre.is_empty()
+        }
+        RangeBound::Unbounded => false,
+    }
+}
+
+// The alternative by which npm matches pre-releases of 0.0.0, and Deno doesn't.
+fn below_zero(pieces: &[Piece]) -> Option<&str> {
+    let piece = pieces.iter().find(|piece| {
+        let is_cut = match &piece.meaning {
+            Meaning::Range(Matches { range, .. }) => {
+                is_from_zero(range) || is_pre_of_zero(&range.start)
+            }
+            Meaning::LeftOut(_) => false,
+        };
+        let is_named = piece.comparators.iter().any(|it| {
+            is_pre_of_zero(&it.range.start) || is_pre_of_zero(&it.range.end)
+        });
+        is_cut && is_named && !names_pre(piece)
+    })?;
+    Some(piece.text.as_str().trim())
+}
+
 /// How node-semver, and so npm, reads parts of a range that it reads differently.
 pub fn differences(
     alloc: Global,
@@ -164,6 +268,18 @@ pub fn differences(
             all.push(format!(in alloc; "npm drops the pre-release of `{text}`")?)?;
         }
     }
+    if let Some(text) = beside_everything(pieces) {
+        let so = "so no pre-release of";
+        all.push(format!(in alloc; "npm reads the whole range as `*`, {so} `{text}` matches")?)?;
+    }
+    if let Some(text) = at_pre_of_end(pieces) {
+        let what = "no pre-release of the version at which";
+        all.push(format!(in alloc; "npm matches {what} `{text}` ends")?)?;
+    }
+    if let Some(text) = below_zero(pieces) {
+        let note = format!(in alloc; "npm also matches pre-releases of 0.0.0 by `{text}`")?;
+        all.push(note)?;
+    }
     Ok(all)
 }
 
@@ -182,23 +298,11 @@ pub fn notes(alloc: Global, range: &str, pieces: &[Piece]) -> Result<Vec<String>
 /// The warnings about a range, and the rules that they come by.
 pub type Warnings = Vec<(Rule, String)>;
 
-// Whether the bound is this major version.
-fn is_major(bound: &VersionBound, major: u64) -> bool {
-    let version = &bound.version;
-    version.major == major && version.minor == 0 && version.patch == 0 && version.pre.is_empty()
-}
-
 // Whether the range is every 0.x, as of `^0`, `0`, `0.x` and `<1`.
 fn is_any_zero(range: &VersionRange) -> bool {
-    let is_from_zero = match &range.start {
-        RangeBound::Version(start) => {
-            start.kind == VersionBoundKind::Inclusive && is_major(start, 0)
-        }
-        RangeBound::Unbounded => true,
-    };
     match &range.end {
         RangeBound::Version(end) => {
-            is_from_zero && end.kind == VersionBoundKind::Exclusive && is_major(end, 1)
+            is_from_zero(range) && end.kind == VersionBoundKind::Exclusive && is_major(end, 1)
         }
         RangeBound::Unbounded => false,
     }
@@ -321,13 +425,7 @@ pub fn bound_of_pre_releases(pieces: &[Piece]) -> Option<&str> {
     let piece = pieces.iter().find(|piece| {
         let text = piece.text.as_str().trim();
         let has_operator = text.starts_with(['^', '~', '<', '>'].as_slice());
-        match &piece.meaning {
-            Meaning::Range(matches) => {
-                let has_pre = matches.pre_of_start || matches.pre_of_end;
-                has_pre && (has_operator || text.contains(' '))
-            }
-            Meaning::LeftOut(_) => false,
-        }
+        names_pre(piece) && (has_operator || text.contains(' '))
     })?;
     Some(piece.text.as_str().trim())
 }

@@ -1,6 +1,6 @@
 //! What `--fix` writes in place of a range.
 
-use crate::advice::{contained, has_dropped_pre};
+use crate::advice::{beside_everything, contained, has_dropped_pre, have_same_numbers};
 use crate::rules::{Level, Levels, Rule};
 use answers::asking::Problem;
 use answers::explained::{Explanation, Matches, Meaning, Piece, explain};
@@ -151,15 +151,6 @@ fn has_dropped_number(range: &str) -> bool {
     range.split('|').any(|alternative| number_behind_wildcard(alternative).is_some())
 }
 
-// Whether two bounds have the same three numbers.
-fn have_same_numbers(one: &RangeBound, other: &RangeBound) -> bool {
-    let (RangeBound::Version(one), RangeBound::Version(other)) = (one, other) else {
-        return false;
-    };
-    let (one, other) = (&one.version, &other.version);
-    one.major == other.major && one.minor == other.minor && one.patch == other.patch
-}
-
 // Whether npm reads several comparators as Deno does. npm ends `^1` below all pre-releases of 2.0.0, and Deno doesn't. That counts only if
 // a bound is a pre-release of 2.0.0.
 fn has_same_end(matches: &Matches) -> bool {
@@ -191,12 +182,14 @@ fn shortened(
     flavour: Flavour,
     range: &str,
 ) -> Result<Option<String>, Stop> {
-    match pieces_of(alloc, flavour, range)? {
-        Some(pieces) if are_alike(pieces.as_slice()) => {
-            Ok(Some(joined(alloc, pieces.as_slice(), levels)?))
-        }
-        _ => Ok(None),
+    let Some(pieces) = pieces_of(alloc, flavour, range)? else {
+        return Ok(None);
+    };
+    let pieces = pieces.as_slice();
+    if !are_alike(pieces) || beside_everything(pieces).is_some() {
+        return Ok(None);
     }
+    Ok(Some(joined(alloc, pieces, levels)?))
 }
 
 // Whether a range with mistakes is corrected: npm refuses it, or a rule that isn't off finds it. Of a tag that is only a guess.
