@@ -160,8 +160,15 @@ fn of_alias(alias: &str) -> Source<'_> {
             let (name, range) = alias.split_at_checked(end).unwrap_or((alias, ""));
             (name, range.strip_prefix('@').unwrap_or(range))
         }
-        None if alias.is_empty() || is_package_name(alias) && !is_archive(alias) => {
-            return Source::Elsewhere;
+        None if alias.is_empty() => {
+            return Source::Odd("npm asks for the package `undefined`: a name follows `npm:`");
+        }
+        None if is_package_name(alias) && !is_archive(alias) => return Source::Elsewhere,
+        None
+            if alias.starts_with('@')
+                && !alias.contains('/')
+                && read_range(alias).reading == Reading::Refused => {
+            return Source::Refused("npm refuses it: a name follows the scope, as in `@scope/name`");
         }
         // Without a name this is a range.
         None => (alias, alias),

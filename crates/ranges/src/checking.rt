@@ -1085,6 +1085,20 @@ fn check_default_catalog<O: Write, E: Write>(
     report.add(console, entry, Finding::new(Cause::Refused, message))
 }
 
+// Reports a dependency without a name, for which npm asks a registry.
+fn check_nameless<O: Write, E: Write>(
+    console: &mut Console<O, E>,
+    report: &mut Report<'_>,
+    entry: &Entry,
+) -> Result<(), Stop> {
+    let is_read = report.aside.is_none();
+    if !entry.name.is_empty() || !is_read || asked_range(entry).is_none() {
+        return Ok(());
+    }
+    let message = "npm asks for the package `undefined`: its key is empty";
+    report.add(console, entry, Finding::by(Rule::OddPath, message))
+}
+
 // Checks what an entry of dependencies says with others, and with what is known of the workspace.
 fn check_relations<'e, O: Write, E: Write>(
     console: &mut Console<O, E>,
@@ -1095,11 +1109,11 @@ fn check_relations<'e, O: Write, E: Write>(
 ) -> Result<(), Stop> {
     match entry.section {
         "dependencies" | "devDependencies" | "optionalDependencies" | "peerDependencies" => {
-            // npm passes over an empty name.
             if !entry.name.is_empty() && !is_package_name(entry.name.as_str()) {
                 let message = "npm refuses it: no package has such a name";
                 report.add(console, entry, Finding::new(Cause::Refused, message))?;
             }
+            check_nameless(console, report, entry)?;
             if names.manager == Some(Manager::Npm) {
                 if !file.linked.contains(entry.name.as_str()) {
                     check_protocol(console, report, names, entry)?;
