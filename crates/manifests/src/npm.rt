@@ -364,6 +364,80 @@ fn of_repository(behind: &str) -> Source<'_> {
     }
 }
 
+// Whether JavaScript drops a character of a URL.
+fn is_dropped(c: char) -> bool {
+    matches!(c, '\t' | '\n' | '\r')
+}
+
+// A number of an address in IPv4: decimal, octal behind a zero, or hexadecimal behind `0x`.
+fn address_number(text: &str) -> Option<u64> {
+    if text.is_empty() {
+        return None;
+    }
+    let (digits, radix) = match behind_protocol(text, "0x") {
+        Some(digits) => (digits, 16u32),
+        None if has_zero(text) => (text, 8),
+        None => (text, 10),
+    };
+    let mut number = 0u64;
+    for c in digits.chars() {
+        let digit = c.to_digit(radix)?;
+        number = number
+            .saturating_mul(u64::from(radix))
+            .saturating_add(u64::from(digit));
+    }
+    Some(number)
+}
+
+// Whether a host ends in a number, and so must be an address in IPv4, and isn't one.
+fn is_bad_address(host: &str) -> bool {
+    let host = host.strip_suffix('.').unwrap_or(host);
+    let (front, last) = host.rsplit_once('.').unwrap_or(("0", host));
+    let number = address_number(last);
+    if number.is_none() && !is_number(last) {
+        return false;
+    }
+    // The last number stands for all bytes that are left.
+    let limit = match host.split('.').count() {
+        1 => 0x1_0000_0000u64,
+        2 => 0x100_0000,
+        3 => 0x1_0000,
+        4 => 0x100,
+        _ => 0,
+    };
+    let is_byte = |part: &str| address_number(part).is_some_and(|number| number < 256);
+    !front.split('.').all(is_byte) || !number.is_some_and(|number| number < limit)
+}
+
+// The character that the first two hexadecimal digits of a text mean in an escape.
+fn escaped_char(digits: &str) -> Option<char> {
+    let mut chars = digits.chars();
+    let high = chars.next()?.to_digit(16)?;
+    let low = chars.next()?.to_digit(16)?;
+    char::from_u32(high.saturating_mul(16).saturating_add(low))
+}
+
+// Whether an escape doesn't stand for a character that the name of a host may have.
+fn is_bad_in_name(behind: &str) -> bool {
+    let is_sign = |c: char| c <= ' ' || c == '\u{7f}' || "#%/:<>?@[\\]^|".contains(c);
+    match escaped_char(behind) {
+        Some(c) => is_sign(c),
+        None => true,
+    }
+}
+
+// Whether a part of a host begins as a name in Punycode does, and is too short for one.
+fn is_bad_punycode(part: &str) -> bool {
+    behind_protocol(part, "xn--").is_some_and(|name| name.len() < 2)
+}
+
+// Whether no URL of the web or of a file has this host.
+fn is_bad_name(host: &str) -> bool {
+    is_bad_address(host)
+        || host.split('%').skip(1).any(is_bad_in_name)
+        || host.split('.').any(is_bad_punycode)
+}
+
 // Whether a URL may have this host, a colon and this port behind its user.
 fn is_host(place: &str, is_of_web: bool) -> bool {
     // An address of IPv6 stands in brackets.
@@ -373,13 +447,16 @@ fn is_host(place: &str, is_of_web: bool) -> bool {
     };
     let (host, port) = rest.split_once(':').unwrap_or((rest, ""));
     let is_port = port.is_empty() || is_number(port) && port.parse::<u16>().is_ok();
-    let is_sign = |c: char| c.is_whitespace() || "<>^|[]".contains(c);
+    let is_sign = |c: char| {
+        c.is_whitespace() || "<>^|[]\\".contains(c) || is_of_web && c.is_control()
+    };
+    let has_sign = host.contains(|c: char| is_sign(c) && !is_dropped(c));
     let is_there = if address.is_empty() {
         !host.is_empty()
     } else {
         host.is_empty() && is_address(address)
     };
-    is_port && is_there && !host.contains(is_sign) && !(is_of_web && has_bad_escape(host))
+    is_port && is_there && !has_sign && !(is_of_web && is_bad_name(host))
 }
 
 // Whether npm takes what stands behind `git+ssh://` for `git@HOST:PATH`: no number follows a colon.
@@ -418,10 +495,14 @@ fn has_bad_host(text: &str) -> bool {
     }
     let is_end = |c: char| matches!(c, '/' | '?' | '#') || is_of_web && c == '\\';
     let place = url.split(is_end).next().unwrap_or("");
-    let (_, place) = place.rsplit_once('@').unwrap_or(("", place));
+    let (has_user, place) = match place.rsplit_once('@') {
+        Some((_, place)) => (true, place),
+        None => (false, place),
+    };
     let (host, _) = place.split_once(':').unwrap_or((place, ""));
-    // Only a URL of the web needs a host, and npm mends one of a host that it knows.
-    (is_of_web || !place.is_empty()) && !is_known_host(host) && !is_host(place, is_of_web)
+    // A URL needs a host if it is of the web or has a user, and npm mends one of a host that it knows.
+    let has_place = is_of_web || has_user || !place.is_empty();
+    has_place && !is_known_host(host) && !is_host(place, is_of_web)
 }
 
 // Whether the text is the address of a host in IPv6.
@@ -436,14 +517,13 @@ fn is_drive(text: &str) -> bool {
     text.len() == 2 && text.starts_with(is_letter) && text.ends_with([':', '|'].as_slice())
 }
 
-// Whether the URL of a file may have this host. JavaScript drops tabs and the ends of lines.
+// Whether the URL of a file may have this host.
 fn is_host_of_file(host: &str) -> bool {
     if let Some(behind) = host.strip_prefix('[') {
         return is_address(behind.strip_suffix(']').unwrap_or(""));
     }
-    let is_dropped = |c: char| matches!(c, '\t' | '\n' | '\r');
     let is_sign = |c: char| c.is_whitespace() || c.is_control() || "<>^|@:[]".contains(c);
-    !host.contains(|c: char| is_sign(c) && !is_dropped(c))
+    !host.contains(|c: char| is_sign(c) && !is_dropped(c)) && !is_bad_name(host)
 }
 
 // The host in the path or the URL of a file: what stands behind two slashes, up to the next.
