@@ -600,6 +600,14 @@ fn of_folder<'t>(text: &str, front: &str, rest: &str) -> Source<'t> {
     }
 }
 
+// Whether npm takes a text with whitespace before `github:` or the like for a repository, and drops the name of its user.
+fn is_moved(text: &str) -> bool {
+    let behind = text.trim_start_matches(|c: char| c <= ' ');
+    let is_place = |front: &&str| behind_protocol(behind, *front).is_some();
+    let is_sign = |c: char| c.is_whitespace() || c == '@';
+    behind.len() < text.len() && SHORT.iter().any(is_place) && !behind.contains(is_sign)
+}
+
 /// Where a dependency comes from, by its text. The protocols of other package managers are known as well.
 pub fn source_of(text: &str) -> Source<'_> {
     if has_refused_escape(text) {
@@ -629,6 +637,11 @@ pub fn source_of(text: &str) -> Source<'_> {
             },
             _ => Source::Registry(range),
         };
+    }
+    if is_moved(text) {
+        return Source::Odd(
+            "npm reads it as another repository: leave out the whitespace before it",
+        );
     }
     if is_refused_ssh(text) {
         return Source::Refused("npm refuses it: write `git+ssh:` in place of `ssh:`");
