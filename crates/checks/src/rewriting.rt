@@ -170,6 +170,11 @@ fn are_alike(pieces: &[Piece]) -> bool {
     })
 }
 
+// Whether an alternative of a range is empty, so that every version matches it.
+fn has_empty_alternative(range: &str) -> bool {
+    range.split("||").any(|part| part.trim().is_empty())
+}
+
 // How many alternatives a range has.
 fn alternatives(range: &str) -> usize {
     range.split("||").count()
@@ -268,7 +273,8 @@ pub fn better(
     };
     let text = text.as_str();
     let is_corrected = text != spaced.as_str();
-    if is_corrected && (text.trim().is_empty() || !is_found(levels, kind, range)) {
+    let is_emptied = has_empty_alternative(text) && !has_empty_alternative(range);
+    if is_corrected && (is_emptied || !is_found(levels, kind, range)) {
         return Ok(None);
     }
     // Deno has no version below 0.0.0, and npm has pre-releases of it.
