@@ -412,6 +412,14 @@ fn is_word(text: &str) -> bool {
         && (text.chars()).all(|c| c.is_ascii_alphanumeric() || matches!(c, '-' | '_' | '.'))
 }
 
+// Whether a text is the place of a repository as git takes it, `user@host:path`.
+fn is_place_for_git(text: &str) -> bool {
+    match text.split_once('@') {
+        Some((user, place)) => !user.is_empty() && place.contains(':') && !is_protocol(place),
+        None => false,
+    }
+}
+
 // What is meant by an alternative as a whole.
 fn of_range(piece: &str, mistake: Mistake<'_>, has_hyphen: bool) -> Option<&'static str> {
     let is_not = mistake.next == '!' && mistake.front.is_empty() && is_comparator(mistake.tail);
@@ -425,6 +433,8 @@ fn of_range(piece: &str, mistake: Mistake<'_>, has_hyphen: bool) -> Option<&'sta
         Some("ranges have no brackets: write `>=` and `<`")
     } else if piece.contains('(') || mistake.next == ')' {
         Some("ranges have no parentheses")
+    } else if is_place_for_git(piece) {
+        Some("for a repository, write `git+ssh://user@host/path`")
     } else if piece.contains('@') {
         Some("leave the package's name out: the range follows `@`")
     } else {
