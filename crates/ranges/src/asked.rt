@@ -155,10 +155,16 @@ fn of_specifier(alloc: Global, text: &str) -> Result<Option<Request>, Stop> {
 
 // What the text of a dependency with this name asks a registry for, or another package of the workspace.
 fn of_dependency(alloc: Global, name: &str, text: &str) -> Result<Option<Request>, AllocError> {
+    let of_other = behind_protocol(text, "npm:").or(behind_protocol(text, "jsr:"));
     let (range, left_out) = match source_of(text) {
         _ if is_own(text) => (text, Some("the workspace's own version")),
         Source::Registry(range) if !text.contains("#semver:") => (range, None),
-        _ => return Ok(None),
+        Source::Refused(_) => (text, Some("npm refuses it")),
+        // What names another package, and no range.
+        _ if of_other.is_some() => return Ok(None),
+        Source::Registry(_) | Source::Elsewhere | Source::Odd(_) => {
+            (text, Some("no range of a registry"))
+        }
     };
     let name = renamed(text).unwrap_or(name);
     let kind = if behind_protocol(text, "jsr:").is_some() {
