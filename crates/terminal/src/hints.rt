@@ -596,6 +596,26 @@ pub fn is_nearly(text: &str, word: &str) -> bool {
     }
 }
 
+// Whether a number is larger than npm's are.
+fn is_too_large(digits: &str) -> bool {
+    match digits.parse::<u64>() {
+        Ok(number) => number > 9_007_199_254_740_991,
+        Err(_) => true,
+    }
+}
+
+// What is asked of a tag that begins as a version does.
+fn question_of_version(tag: &str) -> &'static str {
+    let numbers = tag.split(['-', '+'].as_slice()).next().unwrap_or("");
+    if tag.ends_with('-') {
+        "is a version meant? A pre-release follows `-`"
+    } else if numbers.split('.').count() > 3 {
+        "is a version meant? One has three numbers"
+    } else {
+        "is a version meant?"
+    }
+}
+
 /// What may be meant by a tag that looks like a typing mistake: by `latest`, by a version, or by a range.
 pub fn question(tag: &str) -> Option<&'static str> {
     if is_nearly(tag, LATEST) || tag != LATEST && tag.eq_ignore_ascii_case(LATEST) {
@@ -622,6 +642,9 @@ pub fn question(tag: &str) -> Option<&'static str> {
     if first == 'V' && tag.contains(is_digit) {
         return Some("write `v`, or leave it out");
     }
+    if is_number(tag) && is_too_large(tag) {
+        return Some("is a version meant? npm's numbers go up to 9007199254740991");
+    }
     if !tag.contains('.') || !tag.contains(is_digit) {
         return None;
     }
@@ -632,12 +655,5 @@ pub fn question(tag: &str) -> Option<&'static str> {
     if first != '.' && !is_digit(first) {
         return None;
     }
-    let numbers = tag.split(['-', '+'].as_slice()).next().unwrap_or("");
-    if tag.ends_with('-') {
-        Some("is a version meant? A pre-release follows `-`")
-    } else if numbers.split('.').count() > 3 {
-        Some("is a version meant? One has three numbers")
-    } else {
-        Some("is a version meant?")
-    }
+    Some(question_of_version(tag))
 }
