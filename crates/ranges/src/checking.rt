@@ -109,9 +109,15 @@ fn compare_with_npm<O: Write, E: Write>(
         }
         Reading::Range => (),
     }
+    // Such a finding stands at the start of the text, and one of an alternative behind it.
+    if let Some(word) = read.ignored
+        && has_left_out(pieces)
+    {
+        report_ignored(console, report, entry, range, word, None)?;
+    }
     match read.dropped {
         _ if has_left_out(pieces) => {
-            report_left_out(console, report, entry, range, read.dropped.is_some())?;
+            return report_left_out(console, report, entry, range, read.dropped.is_some());
         }
         Some(dropped) => {
             let hint = if dropped.contains(',') {
