@@ -362,6 +362,17 @@ impl<'t> Reader<'t> {
         }
     }
 
+    // Whether the text without quotes that begins here goes on below: the next line with text is indented farther than this column.
+    fn goes_on(&self, column: usize) -> bool {
+        let mut lines = self.rest().split('\n').skip(1);
+        let Some(next) = lines.find(|line| !line.trim().is_empty()) else {
+            return false;
+        };
+        let text = next.trim_start_matches(' ');
+        let indent = next.len().saturating_sub(text.len());
+        indent > column && colon(text).is_none() && !text.starts_with('#')
+    }
+
     // What is wrong with a text at this column that is no value.
     fn stray(&self, column: usize) -> &'static str {
         match self.blocks.last() {
@@ -433,6 +444,9 @@ impl<'t> Reader<'t> {
                 let is_node = is_item(text) || text.starts_with("? ");
                 if is_node || unread(c).is_none() && colon(text).is_some() {
                     return Err(self.mistake(INVALID));
+                }
+                if unread(c).is_none() && self.collector.is_asked() && self.goes_on(column) {
+                    return Err(self.mistake(LONG));
                 }
                 // What isn't read may go on in the lines below.
                 if unread(c).is_some() || !self.collector.is_asked() {
