@@ -456,7 +456,7 @@ impl Collector {
         let kind = match found {
             Some(_)
                 if shape == Shape::Other && self.format == Format::Yaml && place.text.is_some() => {
-                Kind::Mistake("not a text to YAML: write it in quotes")
+                Kind::Mistake("YAML doesn't read it as a string: write it in quotes")
             }
             Some(kind) => kind,
             None => return Ok(None),
@@ -555,7 +555,7 @@ impl Collector {
         match self.format {
             _ if !is_repeated => Ok(()),
             Format::Yaml => {
-                let message = "the key stands before, too: pnpm refuses the file";
+                let message = "the same key stands further up: pnpm refuses the file";
                 self.add_kind(start, Kind::Mistake(message), "")
             }
             Format::Package | Format::Json => self.add_kind(start, Kind::Repeated, ""),

@@ -1315,7 +1315,7 @@ fn check_entry<'e, O: Write, E: Write>(
         Kind::Repeated => {
             let finding = Finding::by(
                 Rule::DuplicateKey,
-                "the key stands before, too: the last one counts",
+                "the same key stands further up: the last one counts",
             );
             report.add(console, entry, finding)
         }
