@@ -4,7 +4,7 @@ use crate::diff::print_diff;
 use crate::relative::paths_in_diff;
 use crate::rewriting::{Found, better, found_in, is_pinned, is_written};
 use crate::rules::Levels;
-use crate::walking::{Group, Text, entries_of, read_file, without_mark};
+use crate::walking::{Group, Text, entries_of, read_file, split_path, without_mark};
 use manifests::entry::Entry;
 use manifests::manifest::entries;
 use manifests::sections::Kind;
@@ -349,6 +349,24 @@ fn first_changed<'t, R: Files + AllocGlobal>(
     Ok(None)
 }
 
+// The folder in which a file is written that was given by this path.
+fn folder_of<'p, R: Files + AllocGlobal>(rt: &R, spot: &'p Spot, path: &'p str) -> &'p str {
+    let is_link = match fs::symlink_metadata(rt, path) {
+        Ok(data) => data.file_type().is_symlink(),
+        Err(_) => false,
+    };
+    let (folder, _) = if is_link {
+        split_path(spot.real.as_str())
+    } else {
+        split_path(path)
+    };
+    match folder.trim_end_matches('/') {
+        "" if folder.is_empty() => ".",
+        "" => "/",
+        folder => folder,
+    }
+}
+
 // Writes all new files beside the old ones, or none, and reports what can't be written, or has changed.
 fn write_beside<R: Files + AllocGlobal, O: Write, E: Write>(
     rt: &R,
@@ -360,6 +378,8 @@ fn write_beside<R: Files + AllocGlobal, O: Write, E: Write>(
             remove_all(rt, targets.get(..place).unwrap_or(&[]));
             let path = match error.kind() {
                 ErrorKind::AlreadyExists => spot.beside.as_str(),
+                // The file may be written to, so it is the folder that may not.
+                ErrorKind::PermissionDenied => folder_of(rt, spot, file.path.as_str()),
                 _ => file.path.as_str(),
             };
             return complain(console, path, &error);
