@@ -140,6 +140,8 @@ pub struct Report<'r> {
     /// Whether each range is printed with its canonical form.
     pub canonical: bool,
     pub levels: Levels,
+    /// The name that standard input goes by.
+    pub stdin: &'r str,
     pub file: &'r str,
     /// The text of the file.
     pub text: &'r str,
@@ -198,7 +200,11 @@ impl Format {
 
 impl<'r> Report<'r> {
     /// No finding so far, by the options of `check`.
-    pub fn new(matches: &ArgMatches<'_>) -> Report<'r> {
+    pub fn new(matches: &'r ArgMatches<'_>) -> Report<'r> {
+        let stdin = match matches.get_str("stdin-filename") {
+            Some(name) => name,
+            None => "-",
+        };
         let format = if matches.get_flag("json") {
             Format::Json
         } else if matches.get_flag("github") {
@@ -217,6 +223,7 @@ impl<'r> Report<'r> {
             format,
             canonical: matches.get_flag("canonical"),
             levels: Levels::new(),
+            stdin,
             file: "-",
             text: "",
             position: Position::START,

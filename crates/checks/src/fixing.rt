@@ -4,7 +4,7 @@ use crate::diff::print_diff;
 use crate::relative::paths_in_diff;
 use crate::rewriting::{Found, better, found_in, is_pinned, is_written};
 use crate::rules::Levels;
-use crate::walking::{Group, Text, entries_of, read_file, split_path, without_mark};
+use crate::walking::{Group, Text, entries_of, named, read_file, split_path, without_mark};
 use manifests::entry::Entry;
 use manifests::manifest::entries;
 use manifests::sections::Kind;
@@ -119,6 +119,7 @@ pub fn pins_of<R: Files + AllocGlobal>(rt: &R, group: &Group) -> Result<Vec<Stri
 fn with_fixes(
     alloc: Global,
     path: &str,
+    is_yaml: bool,
     read: Text,
     entries: &[Entry],
     levels: &Levels,
@@ -132,7 +133,7 @@ fn with_fixes(
     let mark = file.len().saturating_sub(text.len());
     let mut edit = Edit {
         text,
-        is_yaml: path.ends_with(".yaml"),
+        is_yaml,
         new: String::from_str(alloc, file.get(..mark).unwrap_or(""))?,
         taken: 0,
         count: 0,
@@ -466,12 +467,13 @@ fn undo<R: Files, O: Write, E: Write>(
     Ok(status)
 }
 
-/// The files of a group with better ranges. One that can't be read ends the command.
+/// The files of a group with better ranges. One that can't be read ends the command. Standard input is read as the file `stdin` would be.
 pub fn rewrite<R: Input + Files + AllocGlobal, O: Write, E: Write>(
     rt: &R,
     console: &mut Console<O, E>,
     group: &Group,
     settings: &[&str],
+    stdin: &str,
 ) -> Result<Vec<Rewritten>, Stop> {
     let alloc = console.alloc;
     let mut all = Vec::new(alloc);
@@ -481,7 +483,8 @@ pub fn rewrite<R: Input + Files + AllocGlobal, O: Write, E: Write>(
     for (place, path) in group.paths.iter().enumerate() {
         let path = path.as_str();
         let read = read_file(rt, console, path)?;
-        let entries = entries(alloc, path, without_mark(read.text.as_str()))?;
+        let name = named(path, stdin);
+        let entries = entries(alloc, name, without_mark(read.text.as_str()))?;
         let mut levels = shared;
         set_levels(alloc, &mut levels, entries.as_slice())?;
         if place < group.own {
@@ -491,13 +494,14 @@ pub fn rewrite<R: Input + Files + AllocGlobal, O: Write, E: Write>(
         let file = with_fixes(
             alloc,
             path,
+            name.ends_with(".yaml"),
             read,
             entries.as_slice(),
             &levels,
             pins.as_slice(),
         )?;
         if file.left > 0 {
-            let (path, ranges) = (Shown(path), Counted(file.left, "range"));
+            let (path, ranges) = (Shown(name), Counted(file.left, "range"));
             console.tell(format_args!(
                 "{path}: left {ranges} alone: a key of `resolutions` or `overrides` has the same string"
             ));

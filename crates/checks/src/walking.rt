@@ -1240,6 +1240,11 @@ pub fn read_file<R: Input + Files + AllocGlobal, O: Write, E: Write>(
     Err(Stop::Ended(status))
 }
 
+/// The path that a file goes by, which for standard input is this name.
+pub fn named<'p>(path: &'p str, stdin: &'p str) -> &'p str {
+    if path == "-" { stdin } else { path }
+}
+
 /// The manifests to check: the files, and those in folders, but for what is excluded; without any, those of this folder and its workspaces.
 pub fn find<R: Runtime + AllocGlobal, O: Write, E: Write>(
     rt: &R,

@@ -18,7 +18,7 @@ use checks::known::{
 use checks::projects::by_project;
 use checks::rewriting::{is_rewritten, is_tag, pieces_of};
 use checks::rules::{Level, Levels, Rule, Unknown};
-use checks::walking::{Group, Manifests, find, path_in_repository, read_file, without_mark};
+use checks::walking::{Group, Manifests, find, named, path_in_repository, read_file, without_mark};
 use clap::ArgMatches;
 use deno_semver::PreRelease;
 use manifests::entry::Entry;
@@ -881,6 +881,9 @@ impl Names<'_> {
 // What is checked: a file, and what holds for it.
 #[derive(Clone, Copy)]
 struct Checked<'f> {
+    /// Where it is read.
+    source: &'f str,
+    /// The path by which it is judged.
     path: &'f str,
     /// The path that findings name.
     shown: &'f str,
@@ -1469,6 +1472,7 @@ fn check_text<O: Write, E: Write>(
         add_folder_name(console.alloc, file.path, &mut entries)?;
     }
     let mut report = Report {
+        stdin: "-",
         file: file.shown,
         text,
         pins: file.pins,
@@ -1493,7 +1497,7 @@ fn check_file<R: Input + Files + AllocGlobal, O: Write, E: Write>(
     group: &mut Report<'_>,
     file: Checked<'_>,
 ) -> Result<Status, Stop> {
-    match read_file(rt, console, file.path) {
+    match read_file(rt, console, file.source) {
         Ok(read) => {
             let (text, invalid) = (read.text.as_str(), read.invalid);
             let file = Checked {
@@ -1583,11 +1587,13 @@ fn check_group<R: Runtime + AllocGlobal, O: Write, E: Write>(
     };
     set_above(rt, &mut report.levels, group)?;
     for (place, path) in group.paths.iter().enumerate() {
-        let path = path.as_str();
+        let source = path.as_str();
+        let path = named(source, report.stdin);
         let shown = shown_path(rt, report.format, path)?;
         let installer = known.installer(place);
         let linked = linked_at(rt, console, group, place, installer)?;
         let file = Checked {
+            source,
             path,
             shown: shown.as_str(),
             text: "",
@@ -1622,9 +1628,12 @@ fn check_rewritten<R: Runtime + AllocGlobal, O: Write, E: Write>(
     for (place, file) in files.iter().enumerate() {
         let installer = known.installer(place);
         let linked = linked_at(rt, console, group, place, installer)?;
+        let source = file.path.as_str();
+        let path = named(source, report.stdin);
         let file = Checked {
-            path: file.path.as_str(),
-            shown: file.path.as_str(),
+            source,
+            path,
+            shown: path,
             text: file.new.as_str(),
             invalid: file.invalid,
             is_root: is_root(group, place),
@@ -1655,8 +1664,9 @@ fn rewritten<R: Runtime + AllocGlobal, O: Write, E: Write>(
     console: &mut Console<O, E>,
     group: &Group,
     settings: &[&str],
+    stdin: &str,
 ) -> Result<Vec<Rewritten>, Stop> {
-    match rewrite(rt, console, group, settings) {
+    match rewrite(rt, console, group, settings, stdin) {
         Err(Stop::Ended(status)) => {
             complain_of_unread(console);
             Err(Stop::Ended(status))
@@ -1681,7 +1691,7 @@ fn check_dry<R: Runtime + AllocGlobal, O: Write, E: Write>(
     let report = Report { format, ..*report };
     let mut all = Vec::new(console.alloc);
     for group in groups {
-        all.push(rewritten(rt, console, group, settings)?)?;
+        all.push(rewritten(rt, console, group, settings, report.stdin)?)?;
     }
     let mut status = print_diffs(rt, console, all.as_slice())?;
     console.out.flush()?;
@@ -1716,7 +1726,7 @@ fn fix<R: Runtime + AllocGlobal, O: Write, E: Write>(
         if group.paths.iter().any(|path| path.as_str() == "-") {
             return Ok(console.complain("--fix", "standard input can't be rewritten"));
         }
-        for file in rewritten(rt, console, group, settings)? {
+        for file in rewritten(rt, console, group, settings, "-")? {
             if file.count > 0 {
                 changed.push(file)?;
             }
@@ -1745,6 +1755,12 @@ fn print_files<R: Files + AllocGlobal, O: Write, E: Write>(
     Ok(status)
 }
 
+// Whether standard input has a name by an option, and isn't checked.
+fn is_named_in_vain(matches: &ArgMatches<'_>) -> bool {
+    let files = matches.get_strs("FILE").unwrap_or(&[]);
+    matches.get_str("stdin-filename").is_some() && !files.contains(&"-")
+}
+
 /// `ranges check [FILE..]`: the ranges of each file that are refused, or legal and probably a mistake.
 pub fn check<R: Runtime + AllocGlobal, O: Write, E: Write>(
     rt: &R,
@@ -1753,6 +1769,13 @@ pub fn check<R: Runtime + AllocGlobal, O: Write, E: Write>(
 ) -> Result<Status, Stop> {
     let settings = matches.get_strs("rule").unwrap_or(&[]);
     try_settings(console, settings)?;
+    if is_named_in_vain(matches) {
+        let _ = console.complain(
+            "--stdin-filename",
+            "add `-` to the files, for standard input",
+        );
+        return Ok(Status::Misused);
+    }
     let excludes = matches.get_strs("exclude").unwrap_or(&[]);
     let found = find(rt, console, matches.get_strs("FILE"), excludes)?;
     let Manifests { groups, mut status } = found;

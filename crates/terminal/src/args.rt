@@ -252,6 +252,12 @@ const LIST: Argument = Argument {
     help: "Print the files to check, and check nothing",
 };
 
+const STDIN_NAME: Argument = Argument {
+    name: "stdin-filename",
+    form: Form::Value("NAME", &[]),
+    help: "With - as a file, read standard input as a file of this name would be, such as package.json",
+};
+
 const RANGE: Argument = Argument {
     name: "RANGE",
     form: Form::Text(true),
@@ -418,7 +424,7 @@ const ON_FILES: &[Entry] = &[
         about: "Check the ranges of package.json, deno.json, import maps and pnpm-workspace.yaml",
         arguments: &[
             JSON, GITHUB, SARIF, CANONICAL, FIX, DRY_RUN, EXCLUDE, NO_IGNORE, LIST, NULL_PATHS,
-            RULE, STRICT, QUIET, FILES,
+            RULE, STRICT, QUIET, STDIN_NAME, FILES,
         ],
         examples: "\
 Examples:
@@ -428,6 +434,7 @@ Examples:
   ranges check --fix --dry-run
   ranges check --fix --rule not-canonical=warn
   ranges check --exclude fixtures --files .
+  ranges check --stdin-filename package.json - < package.json
 
 Rules: any-zero, contained-alternative, disjoint-sections, dropped-alternative, duplicate-key, empty-alternative,
 ignored-comparator, no-match, not-utf8, npm-differs, odd-engine, odd-override, odd-path, odd-section, odd-tag, odd-version,
