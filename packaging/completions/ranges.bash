@@ -15,7 +15,7 @@ _ranges() {
         return
     fi
     case ${COMP_WORDS[1]} in
-        check) options="--color -j --json --github --sarif -c --canonical --fix --dry-run --exclude --no-ignore --files -0 --null --rule --strict -q --quiet -h --help -V --version" ;;
+        check) options="--color -j --json --github --sarif -c --canonical --fix --dry-run --exclude --no-ignore --files -0 --null --rule --strict -q --quiet --stdin-filename -h --help -V --version" ;;
         asked) options="--color -j --json -p --pre --exclude --no-ignore -q --quiet --package --apart -h --help -V --version" ;;
         explain) options="--color -j --json -g --grammar -p --pre -h --help -V --version" ;;
         canonical|normal) options="--color -j --json -g --grammar -h --help -V --version" ;;
