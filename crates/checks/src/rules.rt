@@ -147,7 +147,7 @@ pub const RULES: [About; COUNT] = [
         rule: Rule::OddEngine,
         name: "odd-engine",
         level: Level::Warning,
-        finds: "`engines` holds something other than a range: no version satisfies it, or package managers pass over it.",
+        finds: "`engines` or `devEngines` holds something other than a range: no version satisfies it, or package managers pass over it.",
         help: "Write a range in a string, as in `>=20`.",
     },
     About {
