@@ -353,6 +353,7 @@ fn has_text(entry: &Entry) -> bool {
             | Kind::Meta
             | Kind::Repeated
             | Kind::Setting
+            | Kind::Tool
             | Kind::Workspaces
     )
 }
@@ -362,7 +363,7 @@ fn name_of(alloc: Global, entry: &Entry) -> Result<String, AllocError> {
     let (object, name) = (entry.object.as_str(), entry.name.as_str());
     match (entry.section, object) {
         (_, "engines") if entry.depth == 1 => format!(in alloc; "engines.{name}"),
-        ("devEngines", "[]") => format!(in alloc; "devEngines.{name}"),
+        ("devEngines", "[]" | "devEngines") => format!(in alloc; "devEngines.{name}"),
         ("devEngines", _) => format!(in alloc; "devEngines.{object}.{name}"),
         (_, _) => String::from_str(alloc, name),
     }

@@ -111,8 +111,8 @@ fn text_of(entries: &[Entry], kind: Kind) -> Option<&str> {
     Some(found.text.as_str())
 }
 
-// Whether a version matches a range, or can't be compared.
-fn is_match(
+/// Whether a version matches a range, or can't be compared.
+pub fn is_match(
     alloc: Global,
     pre_release: PreRelease,
     range: &str,

@@ -417,6 +417,10 @@ impl Collector {
         }
         let is_there = match (shape, place.text) {
             (Shape::Text, Some(text)) => return Ok(Some(text)),
+            (_, Some((Kind::Tool, section))) => {
+                self.add_kind(index, Kind::Tool, section)?;
+                return Ok(None);
+            }
             (Shape::Null, Some((Kind::Name, _))) => return Ok(None),
             (_, Some((Kind::Name, section))) if self.format == Format::Package => {
                 self.add_kind(index, Kind::OddName, section)?;

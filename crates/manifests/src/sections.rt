@@ -9,6 +9,8 @@ pub enum Kind {
     Dependency,
     /// A range that a runtime or a package manager should match.
     Engine,
+    /// The package manager of `devEngines`, which Corepack reads: its object, its name or its `onFail`.
+    Tool,
     /// A specifier, of which those of npm and JSR name a package.
     Specifier,
     /// A version.
@@ -57,7 +59,7 @@ struct Section(&'static [&'static str], Kind, usize);
 // Anything else is passed over.
 const NEVER: usize = 100;
 
-const SECTIONS: [Section; 31] = [
+const SECTIONS: [Section; 34] = [
     Section(&["dependencies", "*"], Kind::Dependency, 1),
     Section(&["devDependencies", "*"], Kind::Dependency, 1),
     Section(&["peerDependencies", "*"], Kind::Dependency, 1),
@@ -73,6 +75,13 @@ const SECTIONS: [Section; 31] = [
     Section(&["engines", "*"], Kind::Engine, 1),
     Section(&["devEngines", "*", "version"], Kind::Engine, 3),
     Section(&["devEngines", "*", "[]", "version"], Kind::Engine, 4),
+    Section(&["devEngines", "packageManager"], Kind::Tool, NEVER),
+    Section(&["devEngines", "packageManager", "name"], Kind::Tool, NEVER),
+    Section(
+        &["devEngines", "packageManager", "onFail"],
+        Kind::Tool,
+        NEVER,
+    ),
     Section(&["packageManager"], Kind::Manager, 1),
     Section(&["version"], Kind::Version, 1),
     Section(&["name"], Kind::Name, NEVER),

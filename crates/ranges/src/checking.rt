@@ -1,5 +1,6 @@
 //! `ranges check`: the ranges of package.json, deno.json, import maps and lists of ranges.
 
+use crate::corepack::{Tool, is_null_manager};
 use crate::explaining::has_left_out;
 use crate::overriding::Overrides;
 use answers::asking::Problem;
@@ -413,6 +414,47 @@ fn check_range<O: Write, E: Write>(
         Err(Problem::Invalid(_)) => report_invalid(console, report, entry, flavour, range),
         Err(Problem::OutOfMemory) => Err(Stop::OutOfMemory),
     }
+}
+
+// Checks the range of devEngines.packageManager that Corepack refuses.
+fn check_tool_range<O: Write, E: Write>(
+    console: &mut Console<O, E>,
+    report: &mut Report<'_>,
+    entry: &Entry,
+) -> Result<(), Stop> {
+    let (alloc, text) = (console.alloc, entry.text.as_str());
+    let refused = npm::refused_part(text).unwrap_or(text);
+    let message = "Corepack refuses it: not a version range";
+    if is_tag(alloc, Flavour::Npm, text)? {
+        return report.add(console, entry, Finding::new(Cause::Refused, message));
+    }
+    let is_range = match pieces_of(alloc, Flavour::Npm, text)? {
+        Some(pieces) => !has_left_out(pieces.as_slice()),
+        None => false,
+    };
+    if is_range {
+        let hint = hint_of(alloc, text)?;
+        let message = format!(in alloc; "Corepack refuses {}{hint}", Quoted(refused))?;
+        let finding = Finding::new(Cause::Refused, message.as_str());
+        return report.add(console, entry, finding);
+    }
+    let errors = errors_at_end(alloc, Flavour::Npm, text, text)?;
+    report.add_with(console, entry, Cause::Refused, message, &errors)
+}
+
+// Checks an entry of devEngines.packageManager that Corepack refuses.
+fn check_tool<O: Write, E: Write>(
+    console: &mut Console<O, E>,
+    report: &mut Report<'_>,
+    entry: &Entry,
+) -> Result<(), Stop> {
+    let message = match entry.kind {
+        Kind::Engine => return check_tool_range(console, report, entry),
+        Kind::Tool if entry.depth == 1 => "Corepack refuses it: it has no `name`",
+        Kind::Tool => "Corepack refuses it: expected a name, such as \"pnpm\"",
+        _ => "Corepack refuses it: expected a string, such as \"^1.2\"",
+    };
+    report.add(console, entry, Finding::new(Cause::Refused, message))
 }
 
 // Checks the range of an engine, which npm reads strictly.
@@ -869,6 +911,8 @@ struct Names<'e> {
     manager: Option<Manager>,
     /// Whether `packageManager` says so, and not a lockfile.
     is_named: bool,
+    /// What `devEngines` says of the package manager.
+    tool: Tool<'e>,
 }
 
 impl Names<'_> {
@@ -1302,6 +1346,9 @@ fn check_entry<'e, O: Write, E: Write>(
         Kind::Dependency | Kind::Override(_) | Kind::Mistake(_) if is_ignored => Ok(()),
         Kind::Dependency => check_asked(console, report, names, file, entry),
         Kind::Range => check_dependency(console, report, entry),
+        Kind::Engine | Kind::Odd(_) | Kind::Tool if names.tool.refuses(entry) => {
+            check_tool(console, report, entry)
+        }
         Kind::Engine => check_engine(console, report, entry),
         Kind::Specifier => check_specifier(console, report, entry),
         Kind::Version if names.is_private => Ok(()),
@@ -1364,6 +1411,7 @@ fn check_entry<'e, O: Write, E: Write>(
         | Kind::ImportMap
         | Kind::Level
         | Kind::Setting
+        | Kind::Tool
         | Kind::OddSetting(_) => Ok(()),
     }
 }
@@ -1433,6 +1481,11 @@ fn check_entries<O: Write, E: Write>(
         has_packages: entries.iter().any(|entry| entry.kind == Kind::Packages),
         manager: named.or(file.installer.locked),
         is_named: named.is_some(),
+        tool: if file.is_package() {
+            Tool::of(report.text, entries, file.is_root)
+        } else {
+            Tool::NONE
+        },
     };
     for entry in entries {
         report.position.move_to(report.text, entry.start);

@@ -12,6 +12,7 @@ mod apart;
 mod asked;
 mod checking;
 mod comparing;
+mod corepack;
 mod explaining;
 mod listed;
 mod overriding;
