@@ -272,8 +272,10 @@ impl Collector {
             Format::Json | Format::Yaml if first == "workspaces" && has_patterns(place) => false,
             // pnpm passes over a section without a value.
             Format::Yaml => shape != Shape::Null || !self.path.is_empty(),
-            // npm and Deno take `null` for none.
-            _ if self.path.is_empty() && shape == Shape::Null => self.is_workspaces(),
+            // npm and Deno take `null` for none, and Corepack doesn't.
+            _ if self.path.is_empty() && shape == Shape::Null => {
+                self.is_workspaces() || key == "packageManager"
+            }
             // The keys of Node's imports.
             _ if first == "imports" && key.starts_with('#') => false,
             _ => place.is_strict,

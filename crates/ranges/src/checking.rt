@@ -805,19 +805,44 @@ fn is_strict_version(alloc: Global, text: &str) -> Result<bool, AllocError> {
     }
 }
 
+// Reports that packageManager isn't what devEngines asks for.
+fn check_mismatch<O: Write, E: Write>(
+    console: &mut Console<O, E>,
+    report: &mut Report<'_>,
+    entry: &Entry,
+    tool: Tool<'_>,
+    version: &str,
+) -> Result<(), Stop> {
+    let (name, _) = name_and_range(entry.text.as_str());
+    let Some(message) = tool.mismatch(console.alloc, name, version)? else {
+        return Ok(());
+    };
+    let finding = Finding::new(Cause::Refused, message.as_str());
+    report.add(console, entry, finding)
+}
+
 // Checks a package manager with its version, as Corepack does. Bun and Deno read their own.
 fn check_manager<O: Write, E: Write>(
     console: &mut Console<O, E>,
     report: &mut Report<'_>,
     entry: &Entry,
+    tool: Tool<'_>,
 ) -> Result<(), Stop> {
+    if entry.text.is_empty() && tool.is_usable() {
+        return Ok(());
+    }
     let (name, version) = entry.text.as_str().split_once('@').unwrap_or(("", ""));
     let number = version.trim();
     let number = number.strip_prefix('v').unwrap_or(number);
-    let is_exact = version.contains("://") || is_strict_version(console.alloc, number)?;
+    let (is_url, is_known) = (has_scheme(version), matches!(name, "npm" | "pnpm" | "yarn"));
+    let is_exact = is_url || is_strict_version(console.alloc, number)?;
     let message = if name.is_empty() || !is_exact {
         "expected a name and an exact version, such as \"npm@1.2.3\""
-    } else if !matches!(name, "npm" | "pnpm" | "yarn" | "bun" | "deno") {
+    } else if is_url && is_known {
+        "Corepack refuses a URL, unless COREPACK_ENABLE_UNSAFE_CUSTOM_URLS is 1"
+    } else if is_known {
+        return check_mismatch(console, report, entry, tool, number);
+    } else if !matches!(name, "bun" | "deno") {
         "Corepack refuses it: it knows npm, pnpm and yarn"
     } else {
         return Ok(());
@@ -1353,7 +1378,7 @@ fn check_entry<'e, O: Write, E: Write>(
         Kind::Specifier => check_specifier(console, report, entry),
         Kind::Version if names.is_private => Ok(()),
         Kind::Version => check_version(console, report, entry),
-        Kind::Manager => check_manager(console, report, entry),
+        Kind::Manager => check_manager(console, report, entry, names.tool),
         Kind::Meta if names.peers.contains(entry.name.as_str()) => Ok(()),
         Kind::Meta => {
             let finding = Finding::by(
@@ -1380,6 +1405,9 @@ fn check_entry<'e, O: Write, E: Write>(
             }
             report.add(console, entry, Finding::by(Rule::OddVersion, message))
         }
+        Kind::Mistake(_)
+            if is_null_manager(report.text, entry) && (!file.is_root || names.tool.is_usable()) =>
+            Ok(()),
         // npm reads only the workspaces of the root.
         Kind::Mistake(_) if is_of_workspaces(entry) && !file.is_root => Ok(()),
         Kind::Mistake(message) => report.add(console, entry, Finding::new(Cause::Refused, message)),
