@@ -69,7 +69,9 @@ function isRefused(text) {
     manifest = normalize(manifest)
     const root = new Node({ path: '/tmp', pkg: manifest, loadOverrides: true })
     const dependency = new Node({ name: 'p', parent: new Node({ path: '/tmp', pkg: {} }), pkg: manifest })
-    const asked = [...askedBy(root), ...askedBy(dependency), ...overridden(manifest.overrides ?? {})]
+    // npm passes over the key `.` of overrides themselves.
+    const { '.': _, ...overrides } = manifest.overrides ?? {}
+    const asked = [...askedBy(root), ...askedBy(dependency), ...overridden(overrides)]
     if (asked.some(([name, text]) => typeOf(name, text) === 'refused')) return true
     resolve(manifest, root)
     return false

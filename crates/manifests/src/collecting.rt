@@ -179,8 +179,20 @@ impl Collector {
         self.open.last().is_some_and(|open| open.is_array)
     }
 
+    // Whether the next value stands below the key `.` of npm's overrides themselves, which npm passes over.
+    fn is_under_dot(&self) -> bool {
+        let second = match self.path.get(1) {
+            Some(second) => second.as_str(),
+            None => self.key.as_deref().unwrap_or(""),
+        };
+        self.format != Format::Yaml && self.first_key() == "overrides" && second == "."
+    }
+
     // What may stand where the next value is.
     fn place(&self) -> Place {
+        if self.is_under_dot() {
+            return Place::NOWHERE;
+        }
         let last = if self.is_in_array() {
             ITEM
         } else {
@@ -226,7 +238,9 @@ impl Collector {
             .is_some_and(|key| key.as_str() == "overrides");
         match (self.first_key(), self.path.len()) {
             ("overrides", 1) if self.format == Format::Yaml => Some((">", "overrides")),
-            ("overrides", _) if self.format != Format::Yaml => Some(("", "overrides")),
+            ("overrides", _) if self.format != Format::Yaml && !self.is_under_dot() => {
+                Some(("", "overrides"))
+            }
             ("pnpm", 2) if is_of_pnpm => Some((">", "pnpm")),
             ("resolutions", 1) => Some(("/", "resolutions")),
             (_, _) => None,
