@@ -64,7 +64,6 @@ function isRefused(text) {
   } catch {
     return true
   }
-  if (Array.isArray(manifest)) return true
   try {
     manifest = normalize(manifest)
     const root = new Node({ path: '/tmp', pkg: manifest, loadOverrides: true })

@@ -90,13 +90,20 @@ impl Scanner<'_> {
     }
 }
 
+// What is said of a list in place of a manifest, in which npm finds nothing to install.
+fn of_list(alloc: Global, format: Format) -> Entry {
+    let mut entry = Entry::of_file(alloc, 0, "a list: expected an object");
+    if format == Format::Package {
+        entry.kind = Kind::OddSection("a list: npm finds no names in it");
+    }
+    entry
+}
+
 // The entries of JSON, or the one mistake that it is.
 fn of_text(alloc: Global, file: &str, format: Format) -> Result<Vec<Entry>, AllocError> {
     let mistake = match mistake_in(alloc, file)? {
         Some(mistake) => Entry::of_file(alloc, mistake.index, mistake.message),
-        None if file.trim_start().starts_with('[') => {
-            Entry::of_file(alloc, 0, "a list: expected an object")
-        }
+        None if file.trim_start().starts_with('[') => of_list(alloc, format),
         None if !file.trim_start().starts_with('{') => {
             Entry::of_file(alloc, 0, "expected an object")
         }
