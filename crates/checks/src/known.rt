@@ -40,7 +40,7 @@ pub struct Known {
     catalogs: Catalogs,
     /// What can't be read of the catalogs.
     gaps: Vec<Gap>,
-    /// The versions of packages, by name.
+    /// The versions of packages, by name. It's empty if a package.json gives its package a name alone.
     versions: BTreeMap<String, String>,
     /// How many workspaces have a name; the root of all isn't counted.
     names: BTreeMap<String, usize>,
@@ -109,6 +109,11 @@ fn direct_of(alloc: Global, entries: &[Entry]) -> Result<HashSet<String>, AllocE
 fn text_of(entries: &[Entry], kind: Kind) -> Option<&str> {
     let found = entries.iter().find(|entry| entry.kind == kind)?;
     Some(found.text.as_str())
+}
+
+// Whether a manifest names its package itself, and not by its folder.
+fn has_own_name(entries: &[Entry]) -> bool {
+    entries.iter().any(|entry| entry.kind == Kind::Name && entry.start < entry.end)
 }
 
 /// Whether a version matches a range, or can't be compared.
@@ -192,12 +197,14 @@ impl Known {
                     self.gaps.push(gap)?;
                 }
             }
-        } else if let Some(name) = text_of(entries, Kind::Name)
-            && let Some(version) = text_of(entries, Kind::Version)
-        {
+        } else if let Some(name) = text_of(entries, Kind::Name) {
             let name = String::from_str(alloc, name)?;
-            let version = String::from_str(alloc, version)?;
-            let _ = self.versions.insert(name, version)?;
+            if let Some(version) = text_of(entries, Kind::Version) {
+                let version = String::from_str(alloc, version)?;
+                let _ = self.versions.insert(name, version)?;
+            } else if path.ends_with("package.json") && has_own_name(entries) {
+                let _ = self.versions.insert(name, String::new(alloc))?;
+            }
         }
         Ok(())
     }
@@ -329,7 +336,8 @@ impl Known {
         Ok(Some(message))
     }
 
-    /// The version of a workspace that a manifest asks a registry for by its name, if the range doesn't match that version, or is a tag.
+    /// The version of a workspace that a manifest asks a registry for by its name, if the range doesn't match that version, or is a tag. It's
+    /// empty if the workspace has none.
     pub fn other_version(
         &self,
         alloc: Global,
@@ -350,21 +358,29 @@ impl Known {
             "" | "*" => PreRelease::Admitted,
             _ => PreRelease::Restricted,
         };
-        let version = self.versions.get(name);
+        // npm takes a workspace without a version for `*` alone, or for what the root asks of it.
+        let is_other = self.workspace == Workspace::Package && !is_root;
+        let is_asked = matches!(read_range(range).reading, Reading::Range | Reading::Tag);
+        let version = match self.versions.get(name) {
+            Some(version) if !version.is_empty() => version.as_str(),
+            Some(_) if is_other && pre_release == PreRelease::Restricted && is_asked => {
+                return Ok(Some(""));
+            }
+            _ => return Ok(None),
+        };
         let Some(read) = as_read(alloc, range)? else {
             // pnpm links a workspace by a tag, and npm one of the root.
-            let is_other = self.workspace == Workspace::Package && !is_root;
             let is_tag = read_range(range).reading == Reading::Tag;
-            return Ok(match version {
-                Some(version) if is_other && is_tag => Some(version.as_str()),
-                _ => None,
+            return Ok(if is_other && is_tag {
+                Some(version)
+            } else {
+                None
             });
         };
-        match version {
-            Some(version) if !is_match(alloc, pre_release, read.as_str(), version.as_str())? => {
-                Ok(Some(version.as_str()))
-            }
-            _ => Ok(None),
+        if is_match(alloc, pre_release, read.as_str(), version)? {
+            Ok(None)
+        } else {
+            Ok(Some(version))
         }
     }
 }

@@ -189,7 +189,7 @@ pub const RULES: [About; COUNT] = [
         rule: Rule::OtherVersion,
         name: "other-version",
         level: Level::Warning,
-        finds: "The workspace has the package in a version that the range or the tag doesn't match, so it comes from the registry.",
+        finds: "The workspace has the package without a version, or in one that the range or the tag doesn't match, so it comes from the registry.",
         help: "Write a range that matches the version in the workspace.",
     },
     About {

@@ -1106,6 +1106,7 @@ fn check_sibling<O: Write, E: Write>(
     report: &mut Report<'_>,
     entry: &Entry,
     file: Checked<'_>,
+    is_of_other: bool,
 ) -> Result<(), Stop> {
     let Some(version) = file
         .known
@@ -1114,7 +1115,12 @@ fn check_sibling<O: Write, E: Write>(
         return Ok(());
     };
     let name = entry.name.as_str();
-    let message = format!(in console.alloc; "the workspace has {name}@{version}");
+    let message = match version {
+        // Other package managers may link a workspace without a version.
+        "" if is_of_other => return Ok(()),
+        "" => format!(in console.alloc; "{name} has no version in the workspace"),
+        version => format!(in console.alloc; "the workspace has {name}@{version}"),
+    };
     report.tell(console, entry, Rule::OtherVersion, message)
 }
 
@@ -1201,7 +1207,7 @@ fn check_relations<'e, O: Write, E: Write>(
                 report.add(console, entry, finding)?;
             }
             if names.own != entry.name.as_str() {
-                check_sibling(console, report, entry, file)?;
+                check_sibling(console, report, entry, file, names.is_of_other())?;
             }
         }
         "overrides" | "pnpm" if file.is_root => {
