@@ -342,7 +342,7 @@ impl Collector {
     fn misplaced_here(&self, shape: Shape, place: Place) -> Option<Kind> {
         let key = self.key.as_deref().unwrap_or("");
         let is_top = self.path.is_empty();
-        if self.first_key() == "ranges" {
+        if self.first_key() == "ranges" || is_top && key == "ranges" {
             return Some(Kind::OddSetting(match place.text {
                 Some(_) => "expected \"off\", \"warn\" or \"error\"",
                 None => "expected an object",

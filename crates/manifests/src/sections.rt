@@ -96,7 +96,7 @@ const SECTIONS: [Section; 34] = [
     Section(&["workspace", "catalog", "*"], Kind::Dependency, 2),
     Section(&["workspace", "catalogs", "*", "*"], Kind::Dependency, 2),
     Section(&["packages", "[]"], Kind::Workspace, NEVER),
-    Section(&["ranges", "rules", "*"], Kind::Level, 2),
+    Section(&["ranges", "rules", "*"], Kind::Level, 1),
     Section(
         &["pnpm", "peerDependencyRules", "allowedVersions", "*"],
         Kind::Dependency,
