@@ -1,6 +1,6 @@
 //! `ranges check`: the ranges of package.json, deno.json, import maps and lists of ranges.
 
-use crate::corepack::{Tool, is_null_manager};
+use crate::corepack::{Wanted, is_null_manager};
 use crate::explaining::has_left_out;
 use crate::overriding::Overrides;
 use answers::asking::Problem;
@@ -810,7 +810,7 @@ fn check_mismatch<O: Write, E: Write>(
     console: &mut Console<O, E>,
     report: &mut Report<'_>,
     entry: &Entry,
-    tool: Tool<'_>,
+    tool: Wanted<'_>,
     version: &str,
 ) -> Result<(), Stop> {
     let (name, _) = name_and_range(entry.text.as_str());
@@ -826,7 +826,7 @@ fn check_manager<O: Write, E: Write>(
     console: &mut Console<O, E>,
     report: &mut Report<'_>,
     entry: &Entry,
-    tool: Tool<'_>,
+    tool: Wanted<'_>,
 ) -> Result<(), Stop> {
     if entry.text.is_empty() && tool.is_usable() {
         return Ok(());
@@ -937,7 +937,7 @@ struct Names<'e> {
     /// Whether `packageManager` says so, and not a lockfile.
     is_named: bool,
     /// What `devEngines` says of the package manager.
-    tool: Tool<'e>,
+    tool: Wanted<'e>,
 }
 
 impl Names<'_> {
@@ -1516,9 +1516,9 @@ fn check_entries<O: Write, E: Write>(
         manager: named.or(file.installer.locked),
         is_named: named.is_some(),
         tool: if file.is_package() {
-            Tool::of(report.text, entries, file.is_root)
+            Wanted::of(report.text, entries, file.is_root)
         } else {
-            Tool::NONE
+            Wanted::NONE
         },
     };
     for entry in entries {

@@ -9,7 +9,7 @@ use std::alloc::{AllocError, Global};
 
 /// What `devEngines.packageManager` says of the package manager.
 #[derive(Clone, Copy)]
-pub struct Tool<'e> {
+pub struct Wanted<'e> {
     /// The name and the range that `packageManager` must match.
     name: Option<&'e Entry>,
     version: Option<&'e Entry>,
@@ -60,9 +60,9 @@ fn is_valid(entry: &Entry) -> bool {
     entry.kind == Kind::Engine && refused_part(entry.text.as_str()).is_none()
 }
 
-impl<'e> Tool<'e> {
+impl<'e> Wanted<'e> {
     /// Corepack reads nothing.
-    pub const NONE: Tool<'static> = Tool {
+    pub const NONE: Wanted<'static> = Wanted {
         name: None,
         version: None,
         is_lenient: false,
@@ -71,44 +71,44 @@ impl<'e> Tool<'e> {
     };
 
     // What is refused at this index of the file, unless Corepack goes on after a mistake.
-    fn refused_at(start: usize, is_lenient: bool) -> Tool<'e> {
-        Tool {
+    fn refused_at(start: usize, is_lenient: bool) -> Wanted<'e> {
+        Wanted {
             refused: if is_lenient { None } else { Some(start) },
-            ..Tool::NONE
+            ..Wanted::NONE
         }
     }
 
     /// What these entries of a package.json say. Corepack reads that of the root, or beside packageManager.
-    pub fn of(file: &str, entries: &'e [Entry], is_root: bool) -> Tool<'e> {
+    pub fn of(file: &str, entries: &'e [Entry], is_root: bool) -> Wanted<'e> {
         let Some(start) = start_of_object(file, entries) else {
-            return Tool::NONE;
+            return Wanted::NONE;
         };
         if !is_root && !has_manager(entries) {
-            return Tool::NONE;
+            return Wanted::NONE;
         }
         let is_lenient = is_lenient(entries);
         let Some(name) = member(entries, "name") else {
-            return Tool::refused_at(start, is_lenient);
+            return Wanted::refused_at(start, is_lenient);
         };
         let text = name.text.as_str();
         // Without a packageManager, Corepack isn't asked for these two.
         if matches!(text, "bun" | "deno") {
-            return Tool {
+            return Wanted {
                 name: Some(name),
                 is_lenient,
-                ..Tool::NONE
+                ..Wanted::NONE
             };
         }
         if text.is_empty() || text.contains('@') {
-            return Tool::refused_at(name.start, is_lenient);
+            return Wanted::refused_at(name.start, is_lenient);
         }
         let version = member(entries, "version");
         if let Some(version) = version
             && !is_valid(version)
         {
-            return Tool::refused_at(version.start, is_lenient);
+            return Wanted::refused_at(version.start, is_lenient);
         }
-        Tool {
+        Wanted {
             name: Some(name),
             version,
             is_lenient,
