@@ -223,7 +223,8 @@ sqlite() {
 
 # PostgreSQL's extension, in a server of its own.
 postgres() {
-    if ! command -v pg_config >/dev/null || ! [ -e "$(pg_config --pgxs)" ] || ! [ -x "$(pg_config --bindir)/initdb" ]; then
+    if ! command -v pg_config >/dev/null || ! [ -e "$(pg_config --pgxs)" ] || ! [ -x "$(pg_config --bindir)/initdb" ] ||
+        ! [ -e "$(pg_config --includedir-server)/postgres.h" ]; then
         echo "PostgreSQL: left out, since there is no server to build for: apt-get install postgresql postgresql-server-dev-15"
         return
     fi
